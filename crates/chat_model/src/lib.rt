@@ -1,0 +1,28 @@
+//! The words that every other crate speaks: ids, texts, requests, events, rows and outbox entries.
+#![tactic(auto)]
+
+mod entry;
+mod event;
+mod ids;
+mod list;
+mod memory;
+mod mentions;
+mod moment;
+mod request;
+mod row;
+mod settings;
+mod text;
+mod trigger;
+
+pub use entry::{Conversation, Entry, Item};
+pub use event::{Event, Stamped};
+pub use ids::{ChannelId, DealNo, EntryNo, GroupId, MessageId, UserId};
+pub use list::List;
+pub use memory::OutOfMemory;
+pub use mentions::{GroupName, Mentions, UserName};
+pub use moment::Moment;
+pub use request::{Answer, Refusal, Request};
+pub use row::{Cause, Row, RowChange, RowKey, Stage};
+pub use settings::Settings;
+pub use text::Text;
+pub use trigger::{Trigger, Way};

@@ -1,0 +1,76 @@
+//! A growable list whose growth may be refused. Contracts see it as the list of its items.
+ghost use Rattle.std.specs.Prelude.{◌≡◌, ℕ, [], ◌∷◌, ◌++◌, length, IfOk, OnOk, OnErr};
+
+use crate::OutOfMemory;
+use std::alloc::Global;
+use std::marker::Model;
+
+/// Items in order, over a `Vec`.
+#[derive(Debug, Drop)]
+pub struct List<T> {
+    inner: Vec<T>,
+}
+
+impl<T> Model for List<T> {
+    ghost use Rattle.std.specs.Prelude as prelude;
+
+    ghost Value = { prelude.List T };
+
+    ghost view = { λ l. l.inner.items };
+}
+
+impl<T> List<T> {
+    /// An empty list, which takes no memory yet.
+    pub fn new(alloc: Global) -> List<T>
+        ensures { result ≡ [] }
+    {
+        List {
+            inner: Vec::new(alloc),
+        }
+    }
+
+    /// Adds an item at the end. Want of memory leaves the list as it was.
+    pub fn push(&mut self, item: T) -> Result<(), OutOfMemory>
+    where
+        T: Drop,
+        ensures ok { OnOk result (self.new ≡ self.old ++ item ∷ []) }
+        ensures err { OnErr result (self.new ≡ self.old) }
+    {
+        self.inner.push(item)?;
+        Ok(())
+    }
+
+    /// Lends the items in order.
+    pub fn as_slice(&self) -> &[T]
+        ensures { result.now ≡ self.now }
+    {
+        self.inner.as_slice()
+    }
+
+    /// Gives the items back as a `Vec`, which takes no memory.
+    pub fn into_vec(self) -> Vec<T>
+        ensures { result.items ≡ self }
+    {
+        self.inner
+    }
+}
+
+impl<T: Copy> List<T> {
+    /// A list of the same items.
+    pub fn copy(&self) -> Result<List<T>, OutOfMemory>
+        ensures { IfOk result (λ l. l ≡ self.now) }
+    {
+        let alloc = *self.inner.allocator();
+        Ok(List {
+            inner: Vec::from_slice(alloc, &self.inner)?,
+        })
+    }
+}
+
+impl<T> From<Vec<T>> for List<T> {
+    ghost from_gives = { λ v l. l ≡ v.items };
+
+    fn from(inner: Vec<T>) -> List<T> {
+        List { inner }
+    }
+}

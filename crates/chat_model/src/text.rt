@@ -1,0 +1,53 @@
+//! A text whose growth may be refused. Contracts see it as the list of its UTF-8 bytes.
+ghost use Rattle.std.specs.Prelude.{◌≡◌, ℕ, List, IfOk};
+ghost use Rattle.std.specs.String.{string_bytes};
+
+use crate::OutOfMemory;
+use std::alloc::Global;
+use std::marker::Model;
+
+/// UTF-8 text, over a `String`.
+#[derive(Debug, Drop)]
+pub struct Text {
+    inner: String,
+}
+
+impl Model for Text {
+    ghost Value = { List ℕ };
+
+    ghost view = { λ t. string_bytes t.inner };
+}
+
+impl Text {
+    /// A text of the same characters.
+    pub fn from_str(alloc: Global, text: &str) -> Result<Text, OutOfMemory>
+        ensures { IfOk result (λ t. t ≡ text.now) }
+    {
+        Ok(Text {
+            inner: String::from_str(alloc, text)?,
+        })
+    }
+
+    /// Lends the text.
+    pub fn as_str(&self) -> &str
+        ensures { result.now ≡ self.now }
+    {
+        self.inner.as_str()
+    }
+
+    /// A second text of the same characters.
+    pub fn copy(&self) -> Result<Text, OutOfMemory>
+        ensures { IfOk result (λ t. t ≡ self.now) }
+    {
+        let alloc = *self.inner.allocator();
+        Text::from_str(alloc, self.inner.as_str())
+    }
+}
+
+impl From<String> for Text {
+    ghost from_gives = { λ s t. t ≡ string_bytes s };
+
+    fn from(inner: String) -> Text {
+        Text { inner }
+    }
+}
