@@ -190,8 +190,8 @@ find-filter test p false f [] = refl
 find-filter {X} test p b f (x ∷ xs) = by (test x) (p x) b refl refl (f x) (find-filter test p b f xs)
   where
     by : (t q c : Bool) → test x ≡ t → p x ≡ q → (test x ≡ true → p x ≡ c)
-      → find test (filter p xs) ≡ cond {A = Option X} c (find test xs) None
-      → find test (cond q (x ∷ filter p xs) (filter p xs)) ≡ cond {A = Option X} c (cond t (Some x) (find test xs)) None
+        → find test (filter p xs) ≡ cond {A = Option X} c (find test xs) None
+        → find test (cond q (x ∷ filter p xs) (filter p xs)) ≡ cond {A = Option X} c (cond t (Some x) (find test xs)) None
     by true true true h i g e = rw h refl
     by true false false h i g e = e
     by true true false h i g e = cc (g h)
@@ -232,8 +232,8 @@ row_at-changed k (Put row) rows =
     ∙ rw (row_at-rows_below k (key_of row) rows, row_at-rows_above k (key_of row) rows) (by (key_cmp k (key_of row)) refl)
   where
     by : (o : Ordering) → key_cmp k (key_of row) ≡ o
-      → option_or (cond (is_lt o) (row_at k rows) None) (cond (is_eq (key_cmp (key_of row) k)) (Some row) (cond (is_gt o) (row_at k rows) None))
-      ≡ cond (is_eq (key_cmp (key_of row) k)) (Some row) (row_at k rows)
+        → option_or (cond (is_lt o) (row_at k rows) None) (cond (is_eq (key_cmp (key_of row) k)) (Some row) (cond (is_gt o) (row_at k rows) None))
+        ≡ cond (is_eq (key_cmp (key_of row) k)) (Some row) (row_at k rows)
     by Less h = rw (flips_Less k (key_of row) h) (none_else (row_at k rows))
     by Equal h = rw (flips_Equal k (key_of row) h) refl
     by Greater h = rw (flips_Greater k (key_of row) h) refl
@@ -242,8 +242,8 @@ row_at-changed k (Remove gone) rows =
     ∙ rw (row_at-rows_below k gone rows, row_at-rows_above k gone rows) (by (key_cmp k gone) refl)
   where
     by : (o : Ordering) → key_cmp k gone ≡ o
-      → option_or (cond (is_lt o) (row_at k rows) None) (cond (is_gt o) (row_at k rows) None)
-      ≡ cond (is_eq (key_cmp gone k)) None (row_at k rows)
+        → option_or (cond (is_lt o) (row_at k rows) None) (cond (is_gt o) (row_at k rows) None)
+        ≡ cond (is_eq (key_cmp gone k)) None (row_at k rows)
     by Less h = rw (flips_Less k gone h) (none_else (row_at k rows))
     by Equal h = rw (flips_Equal k gone h) refl
     by Greater h = rw (flips_Greater k gone h) refl

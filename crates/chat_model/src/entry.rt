@@ -1,5 +1,9 @@
 //! What is handed over to be delivered.
-use crate::{ChannelId, GroupName, List, MessageId, Moment, Text, Trigger, UserId};
+ghost use Rattle.std.specs.Prelude.{◌≡◌, IfOk};
+
+use crate::duplicate::{Duplicate, duplicate_all};
+use crate::{ChannelId, GroupName, List, MessageId, Moment, OutOfMemory, Text, Trigger, UserId};
+use std::alloc::Global;
 
 /// A message in an entry, with its text as it was at the turn.
 #[derive(Debug, Drop)]
@@ -13,6 +17,32 @@ pub struct Item {
     pub text: Text,
 }
 
+impl Item {
+    /// A second value, the same as this one.
+    pub fn copy(&self, alloc: Global) -> Result<Self, OutOfMemory>
+        ensures { IfOk result (λ second. second ≡ self.now) }
+    {
+        let via = match &self.via {
+            Some(group) => Some(group.copy(alloc)?),
+            None => None,
+        };
+        Ok(Item {
+            message: self.message,
+            sender: self.sender,
+            sender_name: self.sender_name.copy()?,
+            trigger: self.trigger,
+            via,
+            text: self.text.copy()?,
+        })
+    }
+}
+
+impl Duplicate for Item {
+    fn duplicate(&self, alloc: Global) -> Result<Self, OutOfMemory> {
+        self.copy(alloc)
+    }
+}
+
 /// Where the messages of an entry stand.
 #[derive(Debug, Drop)]
 pub enum Conversation {
@@ -21,6 +51,25 @@ pub enum Conversation {
         name: Text,
         topic: Text,
     },
+}
+
+impl Conversation {
+    /// A second value, the same as this one.
+    pub fn copy(&self, _alloc: Global) -> Result<Self, OutOfMemory>
+        ensures { IfOk result (λ second. second ≡ self.now) }
+    {
+        match self {
+            Conversation::Channel {
+                channel,
+                name,
+                topic,
+            } => Ok(Conversation::Channel {
+                channel: *channel,
+                name: name.copy()?,
+                topic: topic.copy()?,
+            }),
+        }
+    }
 }
 
 /// An entry of the outbox, for one user. `at` is the stamp of the turn that made it.
@@ -33,4 +82,30 @@ pub enum Entry {
         conversation: Conversation,
         items: List<Item>,
     },
+}
+
+impl Entry {
+    /// A second value, the same as this one.
+    pub fn copy(&self, alloc: Global) -> Result<Self, OutOfMemory>
+        ensures { IfOk result (λ second. second ≡ self.now) }
+    {
+        match self {
+            Entry::Mail {
+                user,
+                name,
+                at,
+                conversation,
+                items,
+            } => {
+                let copies = duplicate_all(alloc, items.as_slice())?;
+                Ok(Entry::Mail {
+                    user: *user,
+                    name: name.copy()?,
+                    at: *at,
+                    conversation: conversation.copy(alloc)?,
+                    items: List::from(copies),
+                })
+            }
+        }
+    }
 }

@@ -1,5 +1,9 @@
 //! What the journal records.
-use crate::{Moment, Request, UserId};
+ghost use Rattle.std.specs.Prelude.{◌≡◌, IfOk};
+
+use crate::duplicate::Duplicate;
+use crate::{Moment, OutOfMemory, Request, UserId};
+use std::alloc::Global;
 
 /// What happened.
 #[derive(Debug, Drop)]
@@ -12,9 +16,38 @@ pub enum Event {
     MailTurn(UserId),
 }
 
+impl Event {
+    /// A second value, the same as this one.
+    pub fn copy(&self, alloc: Global) -> Result<Self, OutOfMemory>
+        ensures { IfOk result (λ second. second ≡ self.now) }
+    {
+        match self {
+            Event::Restart => Ok(Event::Restart),
+            Event::Asked(request) => Ok(Event::Asked(request.copy(alloc)?)),
+            Event::MailTurn(user) => Ok(Event::MailTurn(*user)),
+        }
+    }
+}
+
 /// An event and the moment at which it was recorded.
 #[derive(Debug, Drop)]
 pub struct Stamped {
     pub at: Moment,
     pub event: Event,
+}
+
+impl Stamped {
+    /// A second value, the same as this one.
+    pub fn copy(&self, alloc: Global) -> Result<Self, OutOfMemory>
+        ensures { IfOk result (λ second. second ≡ self.now) }
+    {
+        let event = self.event.copy(alloc)?;
+        Ok(Stamped { at: self.at, event })
+    }
+}
+
+impl Duplicate for Stamped {
+    fn duplicate(&self, alloc: Global) -> Result<Self, OutOfMemory> {
+        self.copy(alloc)
+    }
 }

@@ -1,6 +1,7 @@
 //! The words that every other crate speaks: ids, texts, requests, events, rows and outbox entries.
 #![tactic(auto)]
 
+mod duplicate;
 mod entry;
 mod event;
 mod ids;
@@ -14,6 +15,7 @@ mod settings;
 mod text;
 mod trigger;
 
+pub use duplicate::{Duplicate, duplicate_all};
 pub use entry::{Conversation, Entry, Item};
 pub use event::{Event, Stamped};
 pub use ids::{ChannelId, DealNo, EntryNo, GroupId, MessageId, UserId};

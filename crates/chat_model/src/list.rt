@@ -1,5 +1,5 @@
 //! A growable list whose growth may be refused. Contracts see it as the list of its items.
-ghost use Rattle.std.specs.Prelude.{◌≡◌, ℕ, [], ◌∷◌, ◌++◌, length, IfOk, OnOk, OnErr};
+ghost use Rattle.std.specs.Prelude.{◌≡◌, ◌↔◌, [], ◌∷◌, ◌++◌, length, IsTrue, IfOk, OnOk, OnErr};
 
 use crate::OutOfMemory;
 use std::alloc::Global;
@@ -38,6 +38,20 @@ impl<T> List<T> {
     {
         self.inner.push(item)?;
         Ok(())
+    }
+
+    /// The number of items.
+    pub fn len(&self) -> usize
+        ensures { result ≡ length self.now }
+    {
+        self.inner.len()
+    }
+
+    /// Whether there is no item.
+    pub fn is_empty(&self) -> bool
+        ensures { IsTrue result ↔ (self.now ≡ []) }
+    {
+        self.inner.is_empty()
     }
 
     /// Lends the items in order.

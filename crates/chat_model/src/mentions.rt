@@ -1,5 +1,8 @@
 //! What a text mentions, and the names by which it does.
-use crate::{GroupId, List, Text, UserId};
+ghost use Rattle.std.specs.Prelude.{◌≡◌, IfOk};
+
+use crate::{GroupId, List, OutOfMemory, Text, UserId};
+use std::alloc::Global;
 
 /// A user and the user's name.
 #[derive(Debug, Drop)]
@@ -8,11 +11,35 @@ pub struct UserName {
     pub name: Text,
 }
 
+impl UserName {
+    /// A second value, the same as this one.
+    pub fn copy(&self, _alloc: Global) -> Result<Self, OutOfMemory>
+        ensures { IfOk result (λ second. second ≡ self.now) }
+    {
+        Ok(UserName {
+            id: self.id,
+            name: self.name.copy()?,
+        })
+    }
+}
+
 /// A group and its name.
 #[derive(Debug, Drop)]
 pub struct GroupName {
     pub id: GroupId,
     pub name: Text,
+}
+
+impl GroupName {
+    /// A second value, the same as this one.
+    pub fn copy(&self, _alloc: Global) -> Result<Self, OutOfMemory>
+        ensures { IfOk result (λ second. second ≡ self.now) }
+    {
+        Ok(GroupName {
+            id: self.id,
+            name: self.name.copy()?,
+        })
+    }
 }
 
 /// Users and groups ascending, once each, and the two wildcards.

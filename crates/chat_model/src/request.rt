@@ -1,5 +1,8 @@
 //! What a client asks, what it is answered, and why it is refused.
-use crate::{ChannelId, DealNo, MessageId, Text, UserId};
+ghost use Rattle.std.specs.Prelude.{◌≡◌, IfOk};
+
+use crate::{ChannelId, DealNo, MessageId, OutOfMemory, Text, UserId};
+use std::alloc::Global;
 
 /// A change that a client asks for.
 #[derive(Debug, Drop)]
@@ -22,6 +25,37 @@ pub enum Request {
         topic: Text,
         text: Text,
     },
+}
+
+impl Request {
+    /// A second value, the same as this one.
+    pub fn copy(&self, _alloc: Global) -> Result<Self, OutOfMemory>
+        ensures { IfOk result (λ second. second ≡ self.now) }
+    {
+        match self {
+            Request::AddUser { name, bot } => Ok(Request::AddUser {
+                name: name.copy()?,
+                bot: *bot,
+            }),
+            Request::AddChannel { name } => Ok(Request::AddChannel { name: name.copy()? }),
+            Request::Subscribe { user, channel, on } => Ok(Request::Subscribe {
+                user: *user,
+                channel: *channel,
+                on: *on,
+            }),
+            Request::Send {
+                sender,
+                channel,
+                topic,
+                text,
+            } => Ok(Request::Send {
+                sender: *sender,
+                channel: *channel,
+                topic: topic.copy()?,
+                text: text.copy()?,
+            }),
+        }
+    }
 }
 
 /// What became of a request that was not refused.
