@@ -1,5 +1,5 @@
 -- How far a reading of a text has come, and what one part more does to it.
-use Rattle.std.proofs.Common.{◌≡◌, ℕ, zero, suc, ◌+◌, ◌-◌, ◌≤◌, ◌<◌, Bool, true, false, not, ◌&&◌, cond, get_or, get_or-drop, List, [], ◌∷◌, ◌++◌, length, drop, take, Option, None, Some, refl, sym, ap, ◌∙◌, subst, arith, append_assoc, length-append, length-drop, length-take, nat_eq, append-nil}
+use Rattle.std.proofs.Common.{◌≡◌, ℕ, zero, suc, ◌+◌, ◌-◌, ◌≤◌, ◌<◌, Bool, true, false, not, ◌&&◌, cond, get_or, get_or-drop, List, [], ◌∷◌, ◌++◌, length, drop, Option, None, Some, refl, sym, ap, ◌∙◌, subst, arith, append_assoc, length-append, length-drop, length-take, nat_eq, append-nil}
 use Rattle.std.specs.Prelude.{codes, chars, slice_index, IsUtf8, IsCharBoundary}
 use Rattle.std.specs.Char.{encode_utf8, len_utf8}
 use Rattle.std.specs.List.{starts_with, prefix_len}
@@ -44,7 +44,7 @@ Reading-part text (b ∷ bs) start n before found more part r first size some fi
     let left : length (drop n (b ∷ bs)) ≡ suc (length bs) - n = length-drop n (b ∷ bs) in
     let ps = parts step.0 (Some (last_character part)) (drop n (b ∷ bs)) in
     let at_n : parts r.fuel before (b ∷ bs) ≡ part ∷ ps =
-        step.2 ∙ ap (λ k. part ∷ parts step.0 (Some (last_character part)) (drop k (b ∷ bs))) size in
+    step.2 ∙ ap (λ k. part ∷ parts step.0 (Some (last_character part)) (drop k (b ∷ bs))) size in
     record {
       place = omega arith;
       fuel = step.0;
@@ -81,6 +81,12 @@ user_form-boundary bs n u h e =
 inner-length : (bs : List ℕ) → length (inner_behind 3 bs) ≡ prefix_len is_inner (drop 3 bs)
 inner-length bs = omega (arith, length-take (prefix_len is_inner (drop 3 bs)) (drop 3 bs), prefix_len-le-length is_inner (drop 3 bs))
 
+-- what has the form of a user span has an Inner
+pub user_form-some : (bs : List ℕ) → has_user_form bs ≡ true → 0 < length (inner_behind 3 bs)
+user_form-some bs h =
+    let some = (and_parts (starts_with nat_eq bs (codes "@**")) _ (and_parts _ _ h).0).1 in
+    grind (arith, nat_tests)
+
 -- the form, by the number of bytes of the Inner
 user_form-is : (bs : List ℕ) (n : ℕ) → n ≡ prefix_len is_inner (drop 3 bs) →
     has_user_form bs ≡ ((starts_with nat_eq bs (codes "@**") && not (nat_eq n 0)) && starts_with nat_eq (drop (3 + n) bs) (codes "**"))
@@ -91,9 +97,10 @@ pub user_form-holds : (before : Option ℕ) (bs : List ℕ) (n : ℕ) → n ≡ 
     starts_with nat_eq bs (codes "@**") ≡ true → (n ≡ 0 → ⊥) → starts_with nat_eq (drop (3 + n) bs) (codes "**") ≡ true →
     ((may_begin before && has_user_form bs) ≡ true) × (5 + n ≡ 5 + length (inner_behind 3 bs))
 user_form-holds before bs n e begins opens some closes =
-    let some' : not (nat_eq n 0) ≡ true = grind (arith, nat_tests) in
-    (and_from (may_begin before) (has_user_form bs) begins (user_form-is bs n e ∙ and_from _ _ (and_from _ _ opens some') closes),
-     omega (arith, inner-length bs))
+    let some' : not (nat_eq n 0) ≡ true = grind (arith, nat_tests) in (
+      and_from (may_begin before) (has_user_form bs) begins (user_form-is bs n e ∙ and_from _ _ (and_from _ _ opens some') closes),
+      omega (arith, inner-length bs),
+    )
 
 and-false : (a : Bool) → (a && false) ≡ false
 and-false true = refl
@@ -103,15 +110,15 @@ pub user_form-empty : (before : Option ℕ) (bs : List ℕ) (n : ℕ) → n ≡ 
     (may_begin before && has_user_form bs) ≡ false
 user_form-empty before bs n e none =
     let zero_long : has_user_form bs ≡ false =
-        user_form-is bs n e ∙ ap (λ k. (starts_with nat_eq bs (codes "@**") && not (nat_eq k 0)) && starts_with nat_eq (drop (3 + n) bs) (codes "**")) none
-        ∙ ap (λ t. t && starts_with nat_eq (drop (3 + n) bs) (codes "**")) (and-false _) in
+    user_form-is bs n e ∙ ap (λ k. (starts_with nat_eq bs (codes "@**") && not (nat_eq k 0)) && starts_with nat_eq (drop (3 + n) bs) (codes "**")) none
+    ∙ ap (λ t. t && starts_with nat_eq (drop (3 + n) bs) (codes "**")) (and-false _) in
     ap (λ t. may_begin before && t) zero_long ∙ and-false _
 
 pub user_form-unclosed : (before : Option ℕ) (bs : List ℕ) (n : ℕ) → n ≡ prefix_len is_inner (drop 3 bs) →
     starts_with nat_eq (drop (3 + n) bs) (codes "**") ≡ false → (may_begin before && has_user_form bs) ≡ false
 user_form-unclosed before bs n e open' =
     let unclosed : has_user_form bs ≡ false =
-        user_form-is bs n e ∙ ap (λ t. (starts_with nat_eq bs (codes "@**") && not (nat_eq n 0)) && t) open' ∙ and-false _ in
+    user_form-is bs n e ∙ ap (λ t. (starts_with nat_eq bs (codes "@**") && not (nat_eq n 0)) && t) open' ∙ and-false _ in
     ap (λ t. may_begin before && t) unclosed ∙ and-false _
 
 pub Reading-user : (text rest : List ℕ) (start n : ℕ) (before : Option ℕ) (found : List Span) → Reading text rest start before found →
@@ -120,7 +127,7 @@ pub Reading-user : (text rest : List ℕ) (start n : ℕ) (before : Option ℕ) 
 Reading-user text rest start n before found r h e =
     let part = user (inner_behind 3 rest) in
     let fits : 5 + length (inner_behind 3 rest) ≤ length rest =
-        user_form-fits rest (and_parts (may_begin before) (has_user_form rest) h).1 in
+    user_form-fits rest (and_parts (may_begin before) (has_user_form rest) h).1 in
     let size : length (bytes_of part) ≡ n = omega (arith, length-append (inner_behind 3 rest) (codes "**")) in
     let more : ℕ → List Span = λ k. record { start = start; end = start + k; silent = false; group = false } ∷ [] in
     Reading-part text rest start n before found (more n) part r
@@ -137,11 +144,11 @@ Reading-single text rest after start c before found r h u e =
     let bounds : (1 ≤ n) × (n ≤ 4) = len_utf8_bounds c in
     let is_c : slice_index (chars rest) 0 ≡ c = ap (λ cs. slice_index cs 0) (chars_past_char rest after c u e) in
     let first : first_part before rest ≡ single c =
-        ap (λ t. cond t (user (inner_behind 3 rest)) (single (slice_index (chars rest) 0))) h ∙ ap single is_c in
+    ap (λ t. cond t (user (inner_behind 3 rest)) (single (slice_index (chars rest) 0))) h ∙ ap single is_c in
     let left : drop n rest ≡ after =
-        ap (λ k. drop k rest) (sym size) ∙ ap (drop (length (encode_utf8 c))) e ∙ drop-append_seam (encode_utf8 c) after in
+    ap (λ k. drop k rest) (sym size) ∙ ap (drop (length (encode_utf8 c))) e ∙ drop-append_seam (encode_utf8 c) after in
     let next : Reading text (drop n rest) (start + n) (Some c) (found ++ []) =
-        Reading-part text rest start n before found [] (single c) r first size bounds.0 (omega arith)
-        (λ ps. ap (λ k. spans_from (start + k) ps) size) in
+    Reading-part text rest start n before found [] (single c) r first size bounds.0 (omega arith)
+    (λ ps. ap (λ k. spans_from (start + k) ps) size) in
     subst (λ f. Reading text after (start + n) (Some c) f) (append-nil found)
     (subst (λ bs. Reading text bs (start + n) (Some c) (found ++ [])) left next)

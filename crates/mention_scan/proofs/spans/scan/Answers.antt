@@ -28,7 +28,7 @@ pub reading-preserved : goal.reading-preserved
 reading-preserved c =
     let none = rw c.as_bytes.ensures.value at c.in_default.ensures in
     let stands : c.reading.rest.now ≡ encode_utf8 c.in-Some-next.c ++ c.as_str-rest.result.now =
-        sym c.chars-characters.ensures.rest ∙ c.in-Some-next.ensures.steps.0 ∙ ap (λ bs. encode_utf8 c.in-Some-next.c ++ bs) (sym c.as_str-rest.ensures) in
+    sym c.chars-characters.ensures.rest ∙ c.in-Some-next.ensures.steps.0 ∙ ap (λ bs. encode_utf8 c.in-Some-next.c ++ bs) (sym c.as_str-rest.ensures) in
     record {
       text = c.as_str-rest.utf8;
       reading = rw c.len_utf8-start.ensures.value (Reading-single c.args.text.now c.reading.rest.now c.as_str-rest.result.now c.reading.start c.in-Some-next.c c.reading.before c.reading.found c.reading.invariant.reading none c.reading.invariant.text stands);
