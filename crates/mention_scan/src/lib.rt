@@ -8,3 +8,6 @@ mod spans;
 pub use mentions::resolve;
 pub use span::Span;
 pub use spans::scan;
+
+#[cfg(test)]
+mod tests;
