@@ -1,5 +1,5 @@
 -- What a text mentions.
-use Rattle.std.specs.Prelude.{ℕ, ◌+◌, ◌-◌, Bool, false, ◌&&◌, ◌==◌, ◌<◌, ◌≤◌, length, List, [], map, filter, count_by, slice_range}
+use Rattle.std.specs.Prelude.{ℕ, ◌+◌, ◌-◌, Bool, false, ◌&&◌, ◌==◌, List, [], map, filter, count_by, slice_range}
 use Rattle.std.specs.List.{list_any}
 use Rattle.std.specs.Str.{str_eq_ignore_ascii_case}
 use Rattle.chat_model.specs.declared.mentions.Mentions.{Mentions}
@@ -11,11 +11,6 @@ use Rattle.mention_scan.specs.Division.{spans_of}
 -- the Inner of a user span of the text: it lies between `@**` and `**`
 abbrev pub inner_of : List ℕ → Span → List ℕ
 inner_of text span = slice_range text (span.start + 3) (span.end - 2)
-
--- the span lies within the text, and its Inner has a byte at least
-pub record LiesWithin (text : List ℕ) (span : Span) : Type 0 where
-  pub room : span.start + 5 < span.end
-  pub end : span.end ≤ length text
 
 -- the user has this name without ASCII case
 abbrev pub is_named : List ℕ → UserName → Bool

@@ -1,8 +1,8 @@
 //! What a text mentions.
 ghost use Rattle.std.specs.Prelude.{◌≡◌, ◌==◌, All, map, filter, count_by, IfOk};
 ghost use Rattle.std.specs.List.{list_any};
-ghost use Rattle.mention_scan.specs.Division.{spans_of};
-ghost use Rattle.mention_scan.specs.Mentions.{LiesWithin, inner_of, is_named, mentions};
+ghost use Rattle.mention_scan.specs.Division.{LiesWithin, spans_of};
+ghost use Rattle.mention_scan.specs.Mentions.{inner_of, is_named, mentions};
 
 use crate::Span;
 use chat_model::{GroupName, List, Mentions, OutOfMemory, UserId, UserName};

@@ -1,7 +1,7 @@
 //! The spans of a text.
-ghost use Rattle.std.specs.Prelude.{◌≡◌, ℕ, ◌+◌, ◌≤◌, ◌&&◌, Bool, true, false, length, drop, IfOk, MatchOption};
+ghost use Rattle.std.specs.Prelude.{◌≡◌, ℕ, ◌+◌, ◌≤◌, ◌&&◌, Bool, true, false, length, drop, All, IfOk, MatchOption, flat_map};
 ghost use Rattle.std.specs.List.{prefix_len};
-ghost use Rattle.mention_scan.specs.Division.{may_precede, may_begin, is_inner, has_user_form, inner_behind, spans_of};
+ghost use Rattle.mention_scan.specs.Division.{may_precede, may_begin, is_inner, has_user_form, inner_behind, bytes_of, division, spans_of, LiesWithin};
 
 use crate::Span;
 use chat_model::{List, OutOfMemory};
@@ -9,7 +9,11 @@ use std::alloc::Global;
 
 /// The spans of a text, in order, by one reading from left to right.
 pub fn scan(alloc: Global, text: &str) -> Result<List<Span>, OutOfMemory>
-    ensures { IfOk result (λ s. s ≡ spans_of text.now) }
+    ensures spans { IfOk result (λ s. s ≡ spans_of text.now) }
+    ensures within { IfOk result (λ s. All (LiesWithin text.now) s) }
+
+    // The division of a text leaves nothing of it out.
+    ensures whole { flat_map bytes_of (division text.now) ≡ text.now }
 {
     let mut found = List::new(alloc);
     let mut rest = text;

@@ -3,8 +3,8 @@ use Rattle.std.specs.List.{list_any}
 use Rattle.std.proofs.lemmas.List.Elements.{All-filter, filter_agree}
 use Rattle.chat_model.specs.declared.mentions.UserName.{UserName}
 use Rattle.mention_scan.specs.declared.span.Span.{Span}
-use Rattle.mention_scan.specs.Division.{spans_of}
-use Rattle.mention_scan.specs.Mentions.{LiesWithin, inner_of, is_named, is_mentioned}
+use Rattle.mention_scan.specs.Division.{LiesWithin, spans_of}
+use Rattle.mention_scan.specs.Mentions.{inner_of, is_named, is_mentioned}
 use Rattle.mention_scan.proofs.Judging.{list_any-filter}
 use Rattle.mention_scan.proofs.Within.{spans_of-within}
 use Rattle.mention_scan.proofs.mentions.resolve.Goals as goal
