@@ -16,9 +16,13 @@ inner_of text span = slice_range text (span.start + 3) (span.end - 2)
 abbrev pub is_named : List ℕ → UserName → Bool
 is_named name user = str_eq_ignore_ascii_case name user.name
 
+-- exactly one of the users has this name
+abbrev pub is_unshared : List UserName → List ℕ → Bool
+is_unshared users name = count_by (is_named name) users == 1
+
 -- the Inner mentions this one of the users: the user has that name, and nobody else has it
 abbrev pub inner_mentions : List UserName → List ℕ → UserName → Bool
-inner_mentions users inner user = count_by (is_named inner) users == 1 && is_named inner user
+inner_mentions users inner user = is_unshared users inner && is_named inner user
 
 -- some span of the text mentions this one of the users
 abbrev pub is_mentioned : List ℕ → List UserName → UserName → Bool

@@ -45,8 +45,9 @@ pub fn scan(alloc: Global, text: &str) -> Result<List<Span>, OutOfMemory>
 
 /// How many bytes the user span has that begins these bytes, behind this character, if one does.
 fn user_span_length(before: Option<char>, bytes: &[u8]) -> Option<usize>
-    ensures { MatchOption result ((may_begin before && has_user_form bytes.now) ≡ false)
-        (λ n. ((may_begin before && has_user_form bytes.now) ≡ true) × (n ≡ 5 + length (inner_behind 3 bytes.now))) }
+    ensures { let begins = may_begin before && has_user_form bytes.now in
+        MatchOption result (begins ≡ false)
+        (λ n. (begins ≡ true) × (n ≡ 5 + length (inner_behind 3 bytes.now))) }
 {
     if !bytes.starts_with(b"@**") || !lets_begin(before) {
         return None;
