@@ -7,6 +7,9 @@ use crate::Span;
 use chat_model::{List, OutOfMemory};
 use std::alloc::Global;
 
+/// How many bytes an Inner has at least.
+const LEAST_INNER: usize = 1;
+
 /// The spans of a text, in order, by one reading from left to right.
 pub fn scan(alloc: Global, text: &str) -> Result<List<Span>, OutOfMemory>
     ensures spans { IfOk result (λ s. s ≡ spans_of text.now) }
@@ -53,7 +56,7 @@ fn user_span_length(before: Option<char>, bytes: &[u8]) -> Option<usize>
         return None;
     }
     let length = inner_length(&bytes[3..]);
-    if length == 0 || !bytes[3 + length..].starts_with(b"**") {
+    if length < LEAST_INNER || !bytes[3 + length..].starts_with(b"**") {
         return None;
     }
     Some(5 + length)
