@@ -54,7 +54,7 @@ Reading-part text (b ∷ bs) start n before found more part r first size some fi
     }
 
 -- what has the form of a user span ends with two stars
-user_form-closes : (bs : List ℕ) → has_user_form bs ≡ true →
+pub user_form-closes : (bs : List ℕ) → has_user_form bs ≡ true →
     drop (3 + length (inner_behind 3 bs)) bs ≡ 42 ∷ 42 ∷ drop 2 (drop (3 + length (inner_behind 3 bs)) bs)
 user_form-closes bs h =
     (starts_is Decides-eqb (drop (3 + length (inner_behind 3 bs)) bs) (codes "**") _ refl).0 (and_parts _ _ h).1
@@ -78,7 +78,7 @@ user_form-boundary bs n u h e =
     let last : k + 1 ≡ n = omega arith in
     subst (IsCharBoundary bs) last (IsCharBoundary-after_ascii bs k u (omega arith) (omega arith))
 
-inner-length : (bs : List ℕ) → length (inner_behind 3 bs) ≡ prefix_len is_inner (drop 3 bs)
+pub inner-length : (bs : List ℕ) → length (inner_behind 3 bs) ≡ prefix_len is_inner (drop 3 bs)
 inner-length bs = omega (arith, length-take (prefix_len is_inner (drop 3 bs)) (drop 3 bs), prefix_len-le-length is_inner (drop 3 bs))
 
 -- what has the form of a user span has an Inner

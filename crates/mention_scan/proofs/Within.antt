@@ -3,8 +3,7 @@ use Rattle.std.proofs.Common.{◌≡◌, ℕ, zero, suc, ◌+◌, ◌&&◌, ◌-
 use Rattle.std.specs.Prelude.{All, codes, chars, slice_index}
 use Rattle.std.proofs.lemmas.List.Elements.{All-cons, All-nil}
 use Rattle.std.proofs.lemmas.Bool.{and_parts}
-use Rattle.mention_scan.specs.Division.{Part, user, single, bytes_of, last_character, may_begin, has_user_form, inner_behind, parts, spans_from, spans_of}
-use Rattle.mention_scan.specs.Mentions.{LiesWithin}
+use Rattle.mention_scan.specs.Division.{Part, user, single, bytes_of, last_character, may_begin, has_user_form, inner_behind, parts, spans_from, spans_of, LiesWithin}
 use Rattle.mention_scan.proofs.Reading.{user_form-fits, user_form-some}
 
 -- what is left behind a part lies within the text too

@@ -1,5 +1,5 @@
 -- How a text divides into parts, and the spans that it has. A text is the list of its UTF-8 bytes.
-use Rattle.std.specs.Prelude.{ℕ, zero, suc, ◌+◌, Bool, true, false, ◌&&◌, ◌||◌, ◌==◌, not, List, [], ◌∷◌, ◌++◌, length, drop, take_while, Option, Some, None, codes, chars, slice_index, nat_eq, if◌then◌else◌}
+use Rattle.std.specs.Prelude.{ℕ, zero, suc, ◌+◌, ◌<◌, ◌≤◌, Bool, true, false, ◌&&◌, ◌||◌, ◌==◌, not, List, [], ◌∷◌, ◌++◌, length, drop, take_while, Option, Some, None, codes, chars, slice_index, nat_eq, if◌then◌else◌}
 use Rattle.std.specs.Char.{is_whitespace, encode_utf8}
 use Rattle.std.specs.List.{starts_with}
 use Rattle.std.specs.Str.{byte}
@@ -74,3 +74,8 @@ spans_from start (single c ∷ parts) = spans_from (start + length (bytes_of (si
 -- the spans of a text, in order
 abbrev pub spans_of : List ℕ → List Span
 spans_of text = spans_from 0 (division text)
+
+-- the span lies within the text, and its Inner has a byte at least
+pub record LiesWithin (text : List ℕ) (span : Span) : Type 0 where
+  pub room : span.start + 5 < span.end
+  pub end : span.end ≤ length text

@@ -1,5 +1,5 @@
 -- What a text mentions.
-use Rattle.std.specs.Prelude.{ℕ, ◌+◌, ◌-◌, Bool, false, ◌&&◌, ◌==◌, ◌<◌, ◌≤◌, length, List, [], map, filter, count_by, slice_range}
+use Rattle.std.specs.Prelude.{ℕ, ◌+◌, ◌-◌, Bool, false, ◌&&◌, ◌==◌, List, [], map, filter, count_by, slice_range}
 use Rattle.std.specs.List.{list_any}
 use Rattle.std.specs.Str.{str_eq_ignore_ascii_case}
 use Rattle.chat_model.specs.declared.mentions.Mentions.{Mentions}
@@ -12,18 +12,17 @@ use Rattle.mention_scan.specs.Division.{spans_of}
 abbrev pub inner_of : List ℕ → Span → List ℕ
 inner_of text span = slice_range text (span.start + 3) (span.end - 2)
 
--- the span lies within the text, and its Inner has a byte at least
-pub record LiesWithin (text : List ℕ) (span : Span) : Type 0 where
-  pub room : span.start + 5 < span.end
-  pub end : span.end ≤ length text
-
 -- the user has this name without ASCII case
 abbrev pub is_named : List ℕ → UserName → Bool
 is_named name user = str_eq_ignore_ascii_case name user.name
 
+-- exactly one of the users has this name
+abbrev pub is_unshared : List UserName → List ℕ → Bool
+is_unshared users name = count_by (is_named name) users == 1
+
 -- the Inner mentions this one of the users: the user has that name, and nobody else has it
 abbrev pub inner_mentions : List UserName → List ℕ → UserName → Bool
-inner_mentions users inner user = count_by (is_named inner) users == 1 && is_named inner user
+inner_mentions users inner user = is_unshared users inner && is_named inner user
 
 -- some span of the text mentions this one of the users
 abbrev pub is_mentioned : List ℕ → List UserName → UserName → Bool

@@ -1,8 +1,8 @@
 //! What a text mentions.
-ghost use Rattle.std.specs.Prelude.{◌≡◌, ◌==◌, All, map, filter, count_by, IfOk};
+ghost use Rattle.std.specs.Prelude.{◌≡◌, All, map, filter, IfOk};
 ghost use Rattle.std.specs.List.{list_any};
-ghost use Rattle.mention_scan.specs.Division.{spans_of};
-ghost use Rattle.mention_scan.specs.Mentions.{LiesWithin, inner_of, is_named, mentions};
+ghost use Rattle.mention_scan.specs.Division.{LiesWithin, spans_of};
+ghost use Rattle.mention_scan.specs.Mentions.{inner_of, is_named, is_unshared, mentions};
 
 use crate::Span;
 use chat_model::{GroupName, List, Mentions, OutOfMemory, UserId, UserName};
@@ -37,7 +37,8 @@ fn unshared_names(
     users: &[UserName],
 ) -> Result<List<Span>, OutOfMemory>
     requires within { All (LiesWithin text.now) spans.now }
-    ensures { IfOk result (λ found. found ≡ filter (λ s. count_by (is_named (inner_of text.now s)) users.now == 1) spans.now) }
+    ensures { IfOk result (λ found.
+        found ≡ filter (λ s. is_unshared users.now (inner_of text.now s)) spans.now) }
 {
     let mut found = List::new(alloc);
     for span in spans {
@@ -57,7 +58,8 @@ fn named_users(
     users: &[UserName],
 ) -> Result<List<UserId>, OutOfMemory>
     requires within { All (LiesWithin text.now) spans.now }
-    ensures { IfOk result (λ found. found ≡ map (λ u. u.id) (filter (λ u. list_any (λ s. is_named (inner_of text.now s) u) spans.now) users.now)) }
+    ensures { IfOk result (λ found. found ≡ map (λ u. u.id)
+        (filter (λ u. list_any (λ s. is_named (inner_of text.now s) u) spans.now) users.now)) }
 {
     let mut found = List::new(alloc);
     for user in users {

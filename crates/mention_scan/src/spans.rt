@@ -1,15 +1,22 @@
 //! The spans of a text.
-ghost use Rattle.std.specs.Prelude.{◌≡◌, ℕ, ◌+◌, ◌≤◌, ◌&&◌, Bool, true, false, length, drop, IfOk, MatchOption};
+ghost use Rattle.std.specs.Prelude.{◌≡◌, ℕ, ◌+◌, ◌≤◌, ◌&&◌, Bool, true, false, length, drop, All, IfOk, MatchOption, flat_map};
 ghost use Rattle.std.specs.List.{prefix_len};
-ghost use Rattle.mention_scan.specs.Division.{may_precede, may_begin, is_inner, has_user_form, inner_behind, spans_of};
+ghost use Rattle.mention_scan.specs.Division.{may_precede, may_begin, is_inner, has_user_form, inner_behind, bytes_of, division, spans_of, LiesWithin};
 
 use crate::Span;
 use chat_model::{List, OutOfMemory};
 use std::alloc::Global;
 
+/// How many bytes an Inner has at least.
+const LEAST_INNER: usize = 1;
+
 /// The spans of a text, in order, by one reading from left to right.
 pub fn scan(alloc: Global, text: &str) -> Result<List<Span>, OutOfMemory>
-    ensures { IfOk result (λ s. s ≡ spans_of text.now) }
+    ensures spans { IfOk result (λ s. s ≡ spans_of text.now) }
+    ensures within { IfOk result (λ s. All (LiesWithin text.now) s) }
+
+    // The division of a text leaves nothing of it out.
+    ensures whole { flat_map bytes_of (division text.now) ≡ text.now }
 {
     let mut found = List::new(alloc);
     let mut rest = text;
@@ -41,14 +48,15 @@ pub fn scan(alloc: Global, text: &str) -> Result<List<Span>, OutOfMemory>
 
 /// How many bytes the user span has that begins these bytes, behind this character, if one does.
 fn user_span_length(before: Option<char>, bytes: &[u8]) -> Option<usize>
-    ensures { MatchOption result ((may_begin before && has_user_form bytes.now) ≡ false)
-        (λ n. ((may_begin before && has_user_form bytes.now) ≡ true) × (n ≡ 5 + length (inner_behind 3 bytes.now))) }
+    ensures { let begins = may_begin before && has_user_form bytes.now in
+        MatchOption result (begins ≡ false)
+        (λ n. (begins ≡ true) × (n ≡ 5 + length (inner_behind 3 bytes.now))) }
 {
     if !bytes.starts_with(b"@**") || !lets_begin(before) {
         return None;
     }
     let length = inner_length(&bytes[3..]);
-    if length == 0 || !bytes[3 + length..].starts_with(b"**") {
+    if length < LEAST_INNER || !bytes[3 + length..].starts_with(b"**") {
         return None;
     }
     Some(5 + length)

@@ -1,10 +1,10 @@
-use Rattle.std.proofs.Common.{◌≡◌, ◌∙◌, ◌==◌, Bool, List, All, ap, count_by, filter, map, sym, subst}
+use Rattle.std.proofs.Common.{◌≡◌, ◌∙◌, Bool, List, All, ap, filter, map, sym, subst}
 use Rattle.std.specs.List.{list_any}
 use Rattle.std.proofs.lemmas.List.Elements.{All-filter, filter_agree}
 use Rattle.chat_model.specs.declared.mentions.UserName.{UserName}
 use Rattle.mention_scan.specs.declared.span.Span.{Span}
-use Rattle.mention_scan.specs.Division.{spans_of}
-use Rattle.mention_scan.specs.Mentions.{LiesWithin, inner_of, is_named, is_mentioned}
+use Rattle.mention_scan.specs.Division.{LiesWithin, spans_of}
+use Rattle.mention_scan.specs.Mentions.{inner_of, is_named, is_mentioned, is_unshared}
 use Rattle.mention_scan.proofs.Judging.{list_any-filter}
 use Rattle.mention_scan.proofs.Within.{spans_of-within}
 use Rattle.mention_scan.proofs.mentions.resolve.Goals as goal
@@ -16,7 +16,7 @@ unshared_names-requires c =
 pub named_users-requires : goal.named_users-requires
 named_users-requires c =
     let text = c.args.text.now in
-    let p : Span → Bool = λ s. count_by (is_named (inner_of text s)) c.args.users.now == 1 in
+    let p : Span → Bool = λ s. is_unshared c.args.users.now (inner_of text s) in
     let within : All (LiesWithin text) c.args.spans.now = subst (All (LiesWithin text)) (sym c.requires.spans_of_the_text) (spans_of-within text) in
     record { within = subst (All (LiesWithin text)) (sym (c.as_slice.ensures ∙ c.in_ok-unshared.ensures)) (All-filter p (LiesWithin text) c.args.spans.now within) }
 
@@ -24,7 +24,7 @@ pub returns : goal.returns
 returns c =
     let text = c.args.text.now in
     let users = c.args.users.now in
-    let p : Span → Bool = λ s. count_by (is_named (inner_of text s)) users == 1 in
+    let p : Span → Bool = λ s. is_unshared users (inner_of text s) in
     let named : List Span → UserName → Bool = λ ss u. list_any (λ s. is_named (inner_of text s) u) ss in
     let chosen : c.as_slice.result.now ≡ filter p (spans_of text) =
     c.as_slice.ensures ∙ c.in_ok-unshared.ensures ∙ ap (filter p) c.requires.spans_of_the_text in

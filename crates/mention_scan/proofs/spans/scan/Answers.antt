@@ -1,8 +1,10 @@
-use Rattle.std.proofs.Common.{◌≡◌, ◌∙◌, ◌++◌, ap, arith, sym}
+use Rattle.std.proofs.Common.{◌≡◌, ◌∙◌, ◌++◌, All, ap, arith, length, subst, sym}
 use Rattle.std.specs.Char.{encode_utf8}
 use Rattle.std.proofs.lemmas.Bool.{and_parts}
-use Rattle.mention_scan.specs.Division.{may_begin, has_user_form}
-use Rattle.mention_scan.proofs.Reading.{Reading-user, Reading-single, user_form-fits, user_form-boundary}
+use Rattle.mention_scan.specs.Division.{LiesWithin, may_begin, has_user_form}
+use Rattle.mention_scan.proofs.Reading.{Reading-end, Reading-user, Reading-single, user_form-fits, user_form-boundary}
+use Rattle.mention_scan.proofs.Whole.{division-whole}
+use Rattle.mention_scan.proofs.Within.{spans_of-within}
 use Rattle.mention_scan.proofs.spans.scan.Goals as goal
 
 pub overflow_add-end : goal.overflow_add-end
@@ -33,3 +35,16 @@ reading-preserved c =
       text = c.as_str-rest.utf8;
       reading = rw c.len_utf8-start.ensures.value (Reading-single c.args.text.now c.reading.rest.now c.as_str-rest.result.now c.reading.start c.in-Some-next.c c.reading.before c.reading.found c.reading.invariant.reading none c.reading.invariant.text stands);
     }
+
+pub returns-in_err-push-clause-whole : goal.returns-in_err-push-clause-whole
+returns-in_err-push-clause-whole c = division-whole c.args.text.now c.utf8.text
+
+pub returns-in_default-next-clause-within : goal.returns-in_default-next-clause-within
+returns-in_default-next-clause-within c =
+    let text = c.args.text.now in
+    let read : length c.reading.rest.now ≡ 0 = ap length (sym c.chars-characters.ensures.rest) ∙ c.in_default-next.ensures.steps.0.0 in
+    let all = Reading-end text c.reading.rest.now c.reading.start c.reading.before c.reading.found c.reading.invariant.reading read in
+    subst (All (LiesWithin text)) (sym all) (spans_of-within text)
+
+pub returns-in_default-next-clause-whole : goal.returns-in_default-next-clause-whole
+returns-in_default-next-clause-whole c = division-whole c.args.text.now c.utf8.text
