@@ -14,3 +14,25 @@ pub struct Settings {
     pub followed_wildcards: bool,
     pub period: u64,
 }
+
+impl Default for Settings {
+    ghost use Rattle.std.specs.Prelude.{◌≡◌};
+    ghost use Rattle.chat_model.specs.Settings.{default_settings};
+
+    ghost is_default = { λ s. s ≡ default_settings };
+
+    fn default() -> Settings {
+        Settings {
+            mail_mentions: true,
+            push_mentions: true,
+            push_online: false,
+            channel_mail: false,
+            channel_push: false,
+            wildcards: true,
+            followed_mail: true,
+            followed_push: true,
+            followed_wildcards: true,
+            period: 120,
+        }
+    }
+}

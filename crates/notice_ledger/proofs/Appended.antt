@@ -1,0 +1,80 @@
+-- Each definition at a journal with one more event.
+use Rattle.std.proofs.Common.{◌≡◌, ℕ, ◌+◌, Bool, false, List, [], ◌∷◌, ◌++◌, cond, length, refl, sym, ap, ◌∙◌, zero-add}
+use Rattle.std.specs.Prelude.{Option, Some, None, unwrap_or, option_to_list, filter, fold, count_by, find, nat_lt, ◌&&◌}
+use Rattle.std.specs.List.{filter_map, flat_map, cons_option}
+use Rattle.std.specs.Option.{option_or}
+use Rattle.std.proofs.lemmas.List.{append_assoc, append-nil}
+use Rattle.std.proofs.lemmas.List.Sums.{fold-append, sum_by-append}
+use Rattle.std.proofs.lemmas.List.Folds.{find-append}
+use Rattle.std.proofs.lemmas.List.Elements.{filter_map-append, filter-append}
+use Rattle.std.proofs.lemmas.Grind.{flat_map-append}
+use Rattle.chat_model.specs.declared.event.Stamped.{Stamped}
+use Rattle.chat_model.specs.declared.event.Event.{Event}
+use Rattle.chat_model.specs.declared.ids.UserId.{UserId}
+use Rattle.chat_model.specs.declared.ids.ChannelId.{ChannelId}
+use Rattle.notice_ledger.specs.Journal.{Occurrence, occurrence, occurrences, occurrences_after, last_given, last_stamp, first_behind}
+use Rattle.notice_ledger.specs.Values.{person_of, people, channel_of, channels, message_of, messages, makes_deal, deal_count, subscription_change, subscribed}
+use Rattle.notice_ledger.specs.Owed.{owed_by, notices}
+use Rattle.notice_ledger.specs.Outbox.{entries_by, outbox}
+
+occurrences_after-append : (past j : List Stamped) (s : Stamped) → occurrences_after past (j ++ s ∷ []) ≡ occurrences_after past j ++ occurrence (past ++ j) s ∷ []
+occurrences_after-append past [] s = ap (λ p. occurrence p s ∷ []) (sym (append-nil past))
+occurrences_after-append past (t ∷ ts) s =
+    ap (λ os. occurrence past t ∷ os) (occurrences_after-append (past ++ t ∷ []) ts s ∙ ap (λ p. occurrences_after (past ++ t ∷ []) ts ++ occurrence p s ∷ []) (append_assoc past (t ∷ []) ts))
+
+pub occurrences-append : (j : List Stamped) (s : Stamped) → occurrences (j ++ s ∷ []) ≡ occurrences j ++ occurrence j s ∷ []
+unfolding occurrences
+occurrences-append j s = occurrences_after-append [] j s
+
+pub first_behind-append : (place : ℕ) (test : Occurrence → Bool) (j : List Stamped) (s : Stamped) → first_behind place test (j ++ s ∷ []) ≡ option_or (first_behind place test j) (cond (nat_lt place (length j) && test (occurrence j s)) (Some (occurrence j s)) None)
+first_behind-append place test j s =
+    ap (find (λ o. nat_lt place o.place && test o)) (occurrences-append j s) ∙ find-append (λ o. nat_lt place o.place && test o) (occurrences j) (occurrence j s ∷ [])
+
+pub first_behind-nil : (place : ℕ) (test : Occurrence → Bool) → first_behind place test [] ≡ None
+unfolding occurrences
+first_behind-nil place test = refl
+
+pub last_given-append : {A : Type 0} (change : Event → Option A) (start : A) (j : List Stamped) (s : Stamped) → last_given change start (j ++ s ∷ []) ≡ unwrap_or (change s.event) (last_given change start j)
+last_given-append change start [] s = refl
+last_given-append change start (t ∷ ts) s = last_given-append change (unwrap_or (change t.event) start) ts s
+
+pub last_stamp-append : (j : List Stamped) (s : Stamped) → last_stamp (j ++ s ∷ []) ≡ s.at
+last_stamp-append j s = fold-append (λ before t. t.at) 0 j (s ∷ [])
+
+single_filter_map : {X Y : Type 0} (h : X → Option Y) (x : X) → filter_map h (x ∷ []) ≡ option_to_list (h x)
+single_filter_map h x = elim (h x) as (λ o. cons_option o [] ≡ option_to_list o) [ None ↦ refl | Some y ↦ refl ]
+
+pub people-append : (j : List Stamped) (s : Stamped) → people (j ++ s ∷ []) ≡ people j ++ option_to_list (person_of s.event)
+unfolding people
+people-append j s = filter_map-append (λ t. person_of t.event) j (s ∷ []) ∙ ap (λ ps. filter_map (λ t. person_of t.event) j ++ ps) (single_filter_map (λ t. person_of t.event) s)
+
+pub channels-append : (j : List Stamped) (s : Stamped) → channels (j ++ s ∷ []) ≡ channels j ++ option_to_list (channel_of s.event)
+unfolding channels
+channels-append j s = filter_map-append (λ t. channel_of t.event) j (s ∷ []) ∙ ap (λ ps. filter_map (λ t. channel_of t.event) j ++ ps) (single_filter_map (λ t. channel_of t.event) s)
+
+pub messages-append : (j : List Stamped) (s : Stamped) → messages (j ++ s ∷ []) ≡ messages j ++ option_to_list (message_of (occurrence j s))
+unfolding messages
+messages-append j s =
+    ap (filter_map message_of) (occurrences-append j s) ∙ (filter_map-append message_of (occurrences j) (occurrence j s ∷ []) ∙ ap (λ ms. filter_map message_of (occurrences j) ++ ms) (single_filter_map message_of (occurrence j s)))
+
+pub deal_count-append : (j : List Stamped) (s : Stamped) → deal_count (j ++ s ∷ []) ≡ deal_count j + cond (makes_deal s.event) 1 0
+unfolding deal_count
+deal_count-append j s = sum_by-append (λ t. cond (makes_deal t.event) 1 0) j (s ∷ []) ∙ ap (λ n. count_by (λ t. makes_deal t.event) j + n) (zero-add (cond (makes_deal s.event) 1 0))
+
+pub subscribed-append : (j : List Stamped) (s : Stamped) (u : UserId) (c : ChannelId) → subscribed (j ++ s ∷ []) u c ≡ unwrap_or (subscription_change u c s.event) (subscribed j u c)
+unfolding subscribed
+subscribed-append j s u c = last_given-append (subscription_change u c) false j s
+
+pub notices-nil : notices [] ≡ []
+unfolding notices occurrences
+notices-nil = refl
+
+pub notices-append : (j : List Stamped) (s : Stamped) → notices (j ++ s ∷ []) ≡ notices j ++ owed_by (occurrence j s)
+unfolding notices
+notices-append j s =
+    ap (flat_map owed_by) (occurrences-append j s) ∙ (flat_map-append owed_by (occurrences j) (occurrence j s ∷ []) ∙ ap (λ ns. flat_map owed_by (occurrences j) ++ ns) (append-nil (owed_by (occurrence j s))))
+
+pub outbox-append : (j : List Stamped) (s : Stamped) → outbox (j ++ s ∷ []) ≡ outbox j ++ entries_by j s.at s.event
+unfolding outbox
+outbox-append j s =
+    ap (flat_map (λ o. entries_by o.past o.at o.event)) (occurrences-append j s) ∙ (flat_map-append (λ o. entries_by o.past o.at o.event) (occurrences j) (occurrence j s ∷ []) ∙ ap (λ es. flat_map (λ o. entries_by o.past o.at o.event) (occurrences j) ++ es) (append-nil (entries_by j s.at s.event)))

@@ -1,0 +1,96 @@
+-- A user's batch rows, due moment, and pending rows, over the notices that wait.
+use Rattle.std.proofs.Common.{◌≡◌, ℕ, ◌+◌, ◌<◌, ◌≤◌, Bool, true, false, ◌&&◌, ◌==◌, cond, List, [], ◌∷◌, ◌++◌, length, map, refl, sym, ap, ◌∙◌, subst, arith}
+use Rattle.std.specs.Prelude.{Option, Some, None, option_map, is_some, is_none, filter, find, fold, nat_lt, nat_le, if◌then◌else◌}
+use Rattle.std.specs.List.{AllByRecursion, filter_map, reduce, cons_option}
+use Rattle.std.specs.Option.{option_map_or}
+use Rattle.std.proofs.lemmas.Bool.{le-ltb, le-leb}
+use Rattle.std.proofs.Math.Bool.{and_comm}
+use Rattle.chat_model.specs.declared.event.Stamped.{Stamped}
+use Rattle.chat_model.specs.declared.ids.UserId.{UserId}
+use Rattle.chat_model.specs.declared.row.Row.{Row}
+use Rattle.chat_model.specs.declared.row.Row.TheVariants as row
+use Rattle.chat_model.specs.declared.row.Stage.TheVariants as stage
+use Rattle.chat_model.specs.declared.trigger.Way.TheVariants.{Mail, Push}
+use Rattle.notice_ledger.specs.declared.account.Account.TheVariants.{Ready, Handed, Cancelled}
+use Rattle.chat_model.specs.declared.row.Cause.TheVariants.{SwitchedOff}
+use Rattle.notice_ledger.specs.Journal.{Occurrence}
+use Rattle.notice_ledger.specs.Values.{settings}
+use Rattle.notice_ledger.specs.Owed.{Notice, notices, turn, waiting, same_way, account_of, decided, switch_on}
+use Rattle.notice_ledger.specs.Due.{batch_rows, is_batch_row, due, earlier}
+use Rattle.notice_ledger.specs.Outbox.{by_message, put_by_message}
+use Rattle.notice_ledger.specs.Rows.{pending_row, stage_of, waiting_row}
+use Rattle.notice_ledger.proofs.Lists.{filter_same_where, filter-filter, find-filter, first_of}
+use Rattle.notice_ledger.proofs.Ascending.{Ascends, Ascends-filter, notices-by_place, notices-by_number}
+
+-- a mail notice of the user
+abbrev pub is_mail_of : UserId → Notice → Bool
+is_mail_of u n = n.user.0 == u.0 && same_way n.way Mail
+
+filter_same : {X : Type 0} (p q : X → Bool) → ((x : X) → p x ≡ q x) → (xs : List X) → filter p xs ≡ filter q xs
+filter_same p q h [] = refl
+filter_same p q h (x ∷ xs) = rw (h x) (ap (λ ys. cond (q x) (x ∷ ys) ys) (filter_same p q h xs))
+
+-- the batch rows are the mail notices that wait
+pub batch_rows-waiting : (j : List Stamped) (u : UserId) → batch_rows j u ≡ filter (is_mail_of u) (waiting j)
+unfolding waiting
+batch_rows-waiting j u =
+    filter_same (is_batch_row j u) (λ n. is_none (turn j n) && is_mail_of u n) (λ n. and_comm (is_mail_of u n) (is_none (turn j n))) (notices j)
+    ∙ sym (filter-filter (is_mail_of u) (λ n. is_none (turn j n)) (notices j))
+
+-- what stands first by message stays first
+put_by_message-first : (n : Notice) (ns : List Notice) → AllByRecursion (λ m. n.number.0 ≤ m.number.0) ns → put_by_message n ns ≡ n ∷ ns
+put_by_message-first n [] h = refl
+put_by_message-first n (m ∷ ms) h = ap (λ b. cond b (n ∷ m ∷ ms) (m ∷ put_by_message n ms)) (le-leb n.number.0 m.number.0 h.0)
+
+by_message-ascending : (ns : List Notice) → Ascends (λ n. n.number.0) ns → by_message ns ≡ ns
+by_message-ascending [] h = refl
+by_message-ascending (n ∷ ns) h = ap (put_by_message n) (by_message-ascending ns h.1) ∙ put_by_message-first n ns h.0
+
+-- a user's batch rows in the order of their messages
+pub by_message-batch_rows : (j : List Stamped) (u : UserId) → by_message (batch_rows j u) ≡ filter (is_mail_of u) (waiting j)
+by_message-batch_rows j u =
+    by_message-ascending (batch_rows j u) (Ascends-filter (λ n. n.number.0) (is_batch_row j u) (notices j) (notices-by_number j))
+    ∙ batch_rows-waiting j u
+
+fold-earlier : (o : Occurrence) (ns : List Notice) → AllByRecursion (λ n. o.place ≤ n.owing.place) ns → fold earlier o (filter_map (λ n. Some n.owing) ns) ≡ o
+fold-earlier o [] h = refl
+fold-earlier o (n ∷ ns) h =
+    ap (λ b. fold earlier (cond b n.owing o) (filter_map (λ n. Some n.owing) ns)) (le-ltb n.owing.place o.place h.0) ∙ fold-earlier o ns h.1
+
+reduce-earlier : (ns : List Notice) → Ascends (λ n. n.owing.place) ns → reduce earlier (filter_map (λ n. Some n.owing) ns) ≡ option_map (λ n. n.owing) (first_of ns)
+reduce-earlier [] h = refl
+reduce-earlier (n ∷ ns) h = ap Some (fold-earlier n.owing ns h.0)
+
+map-twice : {A B C : Type 0} (f : B → C) (g : A → B) (o : Option A) → option_map f (option_map g o) ≡ option_map (λ x. f (g x)) o
+map-twice f g None = refl
+map-twice f g (Some x) = refl
+
+-- a user's due moment is that of the first mail notice that waits
+pub due-waiting : (j : List Stamped) (u : UserId) → due j u ≡ option_map (λ n. n.owing.at + (settings j u).period) (find (is_mail_of u) (waiting j))
+due-waiting j u =
+    ap (option_map (λ o. o.at + (settings j u).period)) (reduce-earlier (batch_rows j u) (Ascends-filter (λ n. n.owing.place) (is_batch_row j u) (notices j) (notices-by_place j)))
+    ∙ (map-twice (λ o. o.at + (settings j u).period) (λ n. n.owing) (first_of (batch_rows j u))
+    ∙ ap (option_map (λ n. n.owing.at + (settings j u).period)) (ap first_of (batch_rows-waiting j u) ∙ find-filter (is_mail_of u) (waiting j)))
+
+-- one notice has a row where it had no turn
+pending_row-turn : (j : List Stamped) (n : Notice) (t : Option Occurrence) → option_map (λ s. row.Pending n.user n.number n.way n.trigger n.deal s) (stage_of (option_map_or (decided n) t Ready)) ≡ cond (is_none t) (Some (waiting_row n)) None
+pending_row-turn j n None = refl
+pending_row-turn j n (Some t) =
+    elim (switch_on t.past n.user n.way) as (λ b. option_map (λ s. row.Pending n.user n.number n.way n.trigger n.deal s) (stage_of (if b then Handed else Cancelled SwitchedOff)) ≡ None) [
+      | true ↦ refl
+      | false ↦ refl
+    ]
+
+pending_rows-turn : (j : List Stamped) (ns : List Notice) → filter_map (pending_row j) ns ≡ map waiting_row (filter (λ n. is_none (turn j n)) ns)
+pending_rows-turn j [] = refl
+pending_rows-turn j (n ∷ ns) =
+    ap (λ r. cons_option r (filter_map (pending_row j) ns)) (pending_row-turn j n (turn j n))
+    ∙ (elim (is_none (turn j n)) as (λ b. cons_option (cond b (Some (waiting_row n)) None) (filter_map (pending_row j) ns) ≡ map waiting_row (cond b (n ∷ filter (λ n. is_none (turn j n)) ns) (filter (λ n. is_none (turn j n)) ns))) [
+      | true ↦ ap (λ rs. waiting_row n ∷ rs) (pending_rows-turn j ns)
+      | false ↦ pending_rows-turn j ns
+    ])
+
+-- the rows of pending notices are those of the notices that wait
+pub pending_rows-waiting : (j : List Stamped) → filter_map (pending_row j) (notices j) ≡ map waiting_row (waiting j)
+unfolding waiting
+pending_rows-waiting j = pending_rows-turn j (notices j)

@@ -1,0 +1,5 @@
+pub mod Lists
+pub mod Appended
+pub mod Waiting
+pub mod Ascending
+pub mod Batches

@@ -1,0 +1,77 @@
+-- Lists: filters, and what holds of each element.
+use Rattle.std.proofs.Common.{◌≡◌, ℕ, ◌≤◌, Bool, true, false, ◌&&◌, cond, List, [], ◌∷◌, ◌++◌, Option, Some, None, refl, sym, ap, ◌∙◌, subst}
+use Rattle.std.specs.Prelude.{filter, find}
+use Rattle.std.proofs.lemmas.List.{append_assoc, append-nil}
+use Rattle.std.specs.List.{AllByRecursion, filter_map, flat_map, cons_option}
+
+-- a filter that keeps each element
+pub filter_all : {X : Type 0} (p : X → Bool) → ((x : X) → p x ≡ true) → (xs : List X) → filter p xs ≡ xs
+filter_all p h [] = refl
+filter_all p h (x ∷ xs) = rw (h x) (ap (λ ys. x ∷ ys) (filter_all p h xs))
+
+-- a filter that keeps no element
+pub filter_none : {X : Type 0} (p : X → Bool) → ((x : X) → p x ≡ false) → (xs : List X) → filter p xs ≡ []
+filter_none p h [] = refl
+filter_none p h (x ∷ xs) = rw (h x) (filter_none p h xs)
+
+-- two tests that agree where P holds filter alike
+pub filter_same_where : {X : Type 0} (P : X → Type 0) (p q : X → Bool) → ((x : X) → P x → p x ≡ q x) → (xs : List X) → AllByRecursion P xs → filter p xs ≡ filter q xs
+filter_same_where P p q h [] all = refl
+filter_same_where P p q h (x ∷ xs) all = rw (h x all.0) (ap (λ ys. cond (q x) (x ∷ ys) ys) (filter_same_where P p q h xs all.1))
+
+-- a filter that keeps what has P keeps each of these
+pub filter_all_where : {X : Type 0} (P : X → Type 0) (p : X → Bool) → ((x : X) → P x → p x ≡ true) → (xs : List X) → AllByRecursion P xs → filter p xs ≡ xs
+filter_all_where P p h [] all = refl
+filter_all_where P p h (x ∷ xs) all = rw (h x all.0) (ap (λ ys. x ∷ ys) (filter_all_where P p h xs all.1))
+
+-- a filter of a filter
+pub filter-filter : {X : Type 0} (p q : X → Bool) (xs : List X) → filter p (filter q xs) ≡ filter (λ x. q x && p x) xs
+filter-filter p q [] = refl
+filter-filter p q (x ∷ xs) =
+    elim (q x) as (λ b. filter p (cond b (x ∷ filter q xs) (filter q xs)) ≡ cond (b && p x) (x ∷ filter (λ y. q y && p y) xs) (filter (λ y. q y && p y) xs)) [
+      | true ↦ ap (λ ys. cond (p x) (x ∷ ys) ys) (filter-filter p q xs)
+      | false ↦ filter-filter p q xs
+    ]
+
+pub AllByRecursion-append : {X : Type 0} (P : X → Type 0) (xs ys : List X) → AllByRecursion P xs → AllByRecursion P ys → AllByRecursion P (xs ++ ys)
+AllByRecursion-append P [] ys hx hy = hy
+AllByRecursion-append P (x ∷ xs) ys hx hy = (hx.0, AllByRecursion-append P xs ys hx.1 hy)
+
+pub AllByRecursion-weaker : {X : Type 0} (P Q : X → Type 0) → ((x : X) → P x → Q x) → (xs : List X) → AllByRecursion P xs → AllByRecursion Q xs
+AllByRecursion-weaker P Q h [] all = tt
+AllByRecursion-weaker P Q h (x ∷ xs) all = (h x all.0, AllByRecursion-weaker P Q h xs all.1)
+
+given_first : {Y : Type 0} (P : Y → Type 0) (o : Option Y) (ys : List Y) → ((y : Y) → o ≡ Some y → P y) → AllByRecursion P ys → AllByRecursion P (cons_option o ys)
+given_first P None ys f all = all
+given_first P (Some y) ys f all = (f y refl, all)
+
+-- what h gives has P, where each value that it gives has
+pub AllByRecursion-filter_map : {X Y : Type 0} (P : Y → Type 0) (h : X → Option Y) → ((x : X) (y : Y) → h x ≡ Some y → P y) → (xs : List X) → AllByRecursion P (filter_map h xs)
+AllByRecursion-filter_map P h f [] = tt
+AllByRecursion-filter_map P h f (x ∷ xs) = given_first P (h x) (filter_map h xs) (f x) (AllByRecursion-filter_map P h f xs)
+
+pub AllByRecursion-flat_map : {X Y : Type 0} (P : Y → Type 0) (f : X → List Y) → ((x : X) → AllByRecursion P (f x)) → (xs : List X) → AllByRecursion P (flat_map f xs)
+AllByRecursion-flat_map P f h [] = tt
+AllByRecursion-flat_map P f h (x ∷ xs) = AllByRecursion-append P (f x) (flat_map f xs) (h x) (AllByRecursion-flat_map P f h xs)
+
+grow : {X : Type 0} (P : List X → Type 0) → ((xs : List X) (x : X) → P xs → P (xs ++ x ∷ [])) → (front back : List X) → P front → P (front ++ back)
+grow P step front [] h = subst P (sym (append-nil front)) h
+grow P step front (x ∷ xs) h = subst P (append_assoc front (x ∷ []) xs) (grow P step (front ++ x ∷ []) xs (step front x h))
+
+-- what holds of no elements, and goes on to one more at the end, holds of each list
+pub by_appending : {X : Type 0} (P : List X → Type 0) → P [] → ((xs : List X) (x : X) → P xs → P (xs ++ x ∷ [])) → (xs : List X) → P xs
+by_appending P start step xs = grow P step [] xs start
+
+-- the first of a list
+abbrev pub first_of : {X : Type 0} → List X → Option X
+first_of [] = None
+first_of (x ∷ xs) = Some x
+
+-- the first element that passes is the first of those that pass
+pub find-filter : {X : Type 0} (p : X → Bool) (xs : List X) → first_of (filter p xs) ≡ find p xs
+find-filter p [] = refl
+find-filter p (x ∷ xs) =
+    elim (p x) as (λ b. first_of (cond b (x ∷ filter p xs) (filter p xs)) ≡ cond b (Some x) (find p xs)) [
+      | true ↦ refl
+      | false ↦ find-filter p xs
+    ]
