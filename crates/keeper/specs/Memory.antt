@@ -16,3 +16,7 @@ counted n = min (n + 1) (2 ^ 64 - 1)
 -- the number of the next call is among those that fail
 abbrev pub FailsNext : Memory → Type 0
 FailsNext memory = Contains memory.failing (counted memory.calls)
+
+-- the call has the next number, and the same calls fail after it
+abbrev pub IsNextCall : Memory → Memory → Type 0
+IsNextCall before now = (now.calls ≡ counted before.calls) × (now.failing ≡ before.failing)

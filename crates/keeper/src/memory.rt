@@ -4,7 +4,7 @@ ghost use Rattle.std.specs.Option.{option_map};
 ghost use Rattle.chat_model.specs.Counts.{HasRisen};
 ghost use Rattle.chat_model.specs.Rows.{IsAscending};
 ghost use Rattle.keeper.specs.Kept.{committed};
-ghost use Rattle.keeper.specs.Memory.{Memory, counted, FailsNext};
+ghost use Rattle.keeper.specs.Memory.{Memory, counted, FailsNext, IsNextCall};
 
 use crate::places::change_all;
 use crate::{KeepFault, Keeper, Kept};
@@ -71,7 +71,15 @@ impl Keeper for MemoryKeeper {
 
     ghost faults = { λ m. m.faults };
 
-    fn load(&mut self) -> Result<Kept, KeepFault> {
+    fn load(&mut self) -> Result<Kept, KeepFault>
+        ensures gives { IfOk result (λ loaded. loaded ≡ self.old.kept) }
+        ensures ascending { IfOk result (λ loaded. IsAscending loaded.rows) }
+        ensures stays { self.new.kept ≡ self.old.kept }
+        ensures failed { IfErr result (λ fault. fault ≡ KeepFault.Failed → HasRisen self.old.faults self.new.faults) }
+        ensures counted { self.old.faults ≤ self.new.faults }
+        ensures exact { (result ≡ Err KeepFault.Failed) ↔ FailsNext self.old }
+        ensures numbered { IsNextCall self.old self.new }
+    {
         if begin(&mut self.calls, &mut self.faults, self.failing.as_slice()) {
             return Err(KeepFault::Failed);
         }
@@ -86,7 +94,14 @@ impl Keeper for MemoryKeeper {
         }
     }
 
-    fn commit(&mut self, event: &Stamped, changes: &[RowChange]) -> Result<(), KeepFault> {
+    fn commit(&mut self, event: &Stamped, changes: &[RowChange]) -> Result<(), KeepFault>
+        ensures ok { OnOk result (self.new.kept ≡ committed event.now changes.now self.old.kept) }
+        ensures err { OnErr result (self.new.kept ≡ self.old.kept) }
+        ensures failed { IfErr result (λ fault. fault ≡ KeepFault.Failed → HasRisen self.old.faults self.new.faults) }
+        ensures counted { self.old.faults ≤ self.new.faults }
+        ensures exact { (result ≡ Err KeepFault.Failed) ↔ FailsNext self.old }
+        ensures numbered { IsNextCall self.old self.new }
+    {
         if begin(&mut self.calls, &mut self.faults, self.failing.as_slice()) {
             return Err(KeepFault::Failed);
         }
