@@ -1,0 +1,9 @@
+//! What is kept beyond a run: the journal, and the rows that follow from it.
+#![tactic(auto)]
+
+mod keeper;
+mod memory;
+mod places;
+
+pub use keeper::{KeepFault, Keeper, Kept};
+pub use memory::MemoryKeeper;
