@@ -44,6 +44,30 @@ last_stamp-append j s = fold-append (λ before t. t.at) 0 j (s ∷ [])
 single_filter_map : {X Y : Type 0} (h : X → Option Y) (x : X) → filter_map h (x ∷ []) ≡ option_to_list (h x)
 single_filter_map h x = elim (h x) as (λ o. cons_option o [] ≡ option_to_list o) [ None ↦ refl | Some y ↦ refl ]
 
+pub people-nil : people [] ≡ []
+unfolding people
+people-nil = refl
+
+pub channels-nil : channels [] ≡ []
+unfolding channels
+channels-nil = refl
+
+pub messages-nil : messages [] ≡ []
+unfolding messages occurrences
+messages-nil = refl
+
+pub deal_count-nil : deal_count [] ≡ 0
+unfolding deal_count
+deal_count-nil = refl
+
+pub subscribed-nil : (u : UserId) (c : ChannelId) → subscribed [] u c ≡ false
+unfolding subscribed
+subscribed-nil u c = refl
+
+pub outbox-nil : outbox [] ≡ []
+unfolding outbox occurrences
+outbox-nil = refl
+
 pub people-append : (j : List Stamped) (s : Stamped) → people (j ++ s ∷ []) ≡ people j ++ option_to_list (person_of s.event)
 unfolding people
 people-append j s = filter_map-append (λ t. person_of t.event) j (s ∷ []) ∙ ap (λ ps. filter_map (λ t. person_of t.event) j ++ ps) (single_filter_map (λ t. person_of t.event) s)

@@ -26,7 +26,8 @@ use Rattle.notice_ledger.proofs.Ascending.{Ascends, Ascends-filter, notices-by_p
 abbrev pub is_mail_of : UserId → Notice → Bool
 is_mail_of u n = n.user.0 == u.0 && same_way n.way Mail
 
-filter_same : {X : Type 0} (p q : X → Bool) → ((x : X) → p x ≡ q x) → (xs : List X) → filter p xs ≡ filter q xs
+-- two tests that agree filter alike
+pub filter_same : {X : Type 0} (p q : X → Bool) → ((x : X) → p x ≡ q x) → (xs : List X) → filter p xs ≡ filter q xs
 filter_same p q h [] = refl
 filter_same p q h (x ∷ xs) = rw (h x) (ap (λ ys. cond (q x) (x ∷ ys) ys) (filter_same p q h xs))
 

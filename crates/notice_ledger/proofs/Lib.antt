@@ -3,3 +3,4 @@ pub mod Appended
 pub mod Waiting
 pub mod Ascending
 pub mod Batches
+pub mod Sent

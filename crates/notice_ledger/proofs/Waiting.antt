@@ -91,3 +91,7 @@ waiting-append j s =
     filter_same_where (λ n. n.owing.place < length j) (λ n. is_none (turn (j ++ s ∷ []) n)) (λ n. is_none (turn j n) && not (is_turn s n))
     (λ n placed. ap is_none (turn-append j s n placed) ∙ none-or (turn j n) (is_turn s n) (occurrence j s)) (notices j) (notices-placed j)
     ∙ sym (filter-filter (λ n. not (is_turn s n)) (λ n. is_none (turn j n)) (notices j)))))
+
+pub waiting-nil : waiting [] ≡ []
+unfolding waiting
+waiting-nil = ap (filter (λ n. is_none (turn [] n))) notices-nil
