@@ -2,12 +2,17 @@
 #![tactic(auto)]
 
 mod failed;
+mod last_line;
+mod print_line;
+mod reply;
 mod sink;
 mod source;
 mod spool;
 
 pub use failed::Failed;
-pub use sink::{MemorySink, Sink};
+pub use last_line::{LastLine, write_last_line};
+pub use reply::{Reply, print_reply, write_reply};
+pub use sink::{MemorySink, Sink, write_all};
 pub use source::{MemorySource, Source};
 pub use spool::{MemorySpool, PutFault, Spool};
 

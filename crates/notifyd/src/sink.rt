@@ -1,8 +1,9 @@
 //! Where bytes are written to.
-ghost use Rattle.std.specs.Prelude.{◌≡◌, ℕ, [], ◌+◌, ◌<◌, ◌≤◌, ◌==◌, ◌||◌, ◌↔◌, ◌++◌, List, length, take, IfOk, OnErr, IsErr, IsTrue, Option, Some, nat_lt};
+ghost use Rattle.std.specs.Prelude.{◌≡◌, ℕ, [], ◌+◌, ◌<◌, ◌≤◌, ◌==◌, ◌||◌, ◌↔◌, ◌++◌, List, length, take, IfOk, OnOk, OnErr, IsErr, IsTrue, Option, Some, nat_lt};
 ghost use Rattle.std.specs.Option.{option_map};
 ghost use Rattle.std.specs.List.{list_any};
 ghost use Rattle.notifyd.specs.Count.{raised, HasRisen};
+ghost use Rattle.notifyd.specs.Sink.{WritesFront};
 
 use crate::Failed;
 use chat_model::{List, OutOfMemory};
@@ -25,6 +26,20 @@ pub trait Sink {
         ensures none_taken { OnErr result (written self.new ≡ written self.old) }
         ensures cause { OnErr result (HasRisen (faults self.old) (faults self.new)) }
         ensures count { faults self.old ≤ faults self.new };
+}
+
+/// Writes the whole text. After a failure a front of it was written.
+pub fn write_all<O: Sink>(out: &mut O, text: &[u8]) -> Result<(), Failed>
+    ensures ok { OnOk result (O.written out.new ≡ option_map (λ done. done ++ text.now) (O.written out.old)) }
+    ensures err { OnErr result (WritesFront text.now (O.written out.old) (O.written out.new)) }
+    ensures cause { OnErr result (HasRisen (O.faults out.old) (O.faults out.new)) }
+    ensures count { O.faults out.old ≤ O.faults out.new }
+{
+    let mut at = 0;
+    while at < text.len() {
+        at += out.write(&text[at..])?;
+    }
+    Ok(())
 }
 
 /// A sink in memory. It takes its room when it is made.
