@@ -2,7 +2,11 @@
 #![tactic(auto)]
 
 mod failed;
+mod field;
+mod form;
 mod last_line;
+mod line;
+mod plain_text;
 mod print_line;
 mod reply;
 mod sink;
@@ -11,6 +15,7 @@ mod spool;
 
 pub use failed::Failed;
 pub use last_line::{LastLine, write_last_line};
+pub use line::{Column, Line, LineFault, MAX_LINE, read_line};
 pub use reply::{Reply, print_reply, write_reply};
 pub use sink::{MemorySink, Sink, write_all};
 pub use source::{MemorySource, Source};
