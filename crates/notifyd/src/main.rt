@@ -21,4 +21,7 @@ pub use sink::{MemorySink, Sink, write_all};
 pub use source::{MemorySource, Source};
 pub use spool::{MemorySpool, PutFault, Spool};
 
+#[cfg(test)]
+mod tests;
+
 fn main() {}
