@@ -1,6 +1,6 @@
 //! Each public call once, with ample memory, and worked values.
 use super::*;
-use chat_model::{Answer, ChannelId, DealNo, List, MessageId, Moment, Refusal, Request, UserId};
+use chat_model::{Answer, ChannelId, DealNo, List, MessageId, Refusal, Request, UserId};
 use office::MailAnswer;
 use std::process::Abort;
 use std::test::Fail;
@@ -140,11 +140,31 @@ fn lines_are_read(rt: HostRuntime) -> Result<(), Fail> {
     assert!(rt; matches!(&read_line(alloc, b"  \r\n"), Ok(Line::Nothing)));
     assert!(rt; matches!(&read_line(alloc, b"# audit\n"), Ok(Line::Nothing)));
     assert!(rt; matches!(&read_line(alloc, b" mail "), Ok(Line::Mail)));
-    match read_line(alloc, b"at 007\r\n") {
-        Ok(Line::At(moment)) => assert_eq!(rt; moment.seconds(), 7),
-        _ => panic!(rt; "the line was not read"),
+    Ok(())
+}
+
+#[test]
+fn a_moment_is_read(rt: HostRuntime) -> Result<(), Fail> {
+    match read_line(rt.alloc(), b"at 007\r\n") {
+        Ok(line) => assert_eq!(rt; seconds_of(line), Some(7)),
+        Err(_) => panic!(rt; "the line was not read"),
     }
-    match read_line(alloc, b"send 1 2 \"lunch\" \"say \\\"hi\\\" @**Ben**\"\n") {
+    Ok(())
+}
+
+fn seconds_of(line: Line) -> Option<u64> {
+    match line {
+        Line::At(moment) => Some(moment.seconds()),
+        _ => None,
+    }
+}
+
+#[test]
+fn a_request_is_read(rt: HostRuntime) -> Result<(), Fail> {
+    match read_line(
+        rt.alloc(),
+        b"send 1 2 \"lunch\" \"say \\\"hi\\\" @**Ben**\"\n",
+    ) {
         Ok(
             Line::Asked(
                 Request::Send {
