@@ -1,0 +1,118 @@
+-- The lines of a script: what the bytes of a line read as.
+use Rattle.std.specs.Prelude.{ℕ, ◌+◌, ◌-◌, ◌==◌, ◌&&◌, ◌||◌, Bool, false, List, length, take, slice_index, nat_lt, if◌then◌else◌, Result, Ok, Err, codes, bytes_eq}
+use Rattle.std.specs.List.{list_all}
+use Rattle.std.specs.Str.Lossy.{utf8_valid_len}
+use Rattle.chat_model.specs.declared.request.Request.TheVariants.{AddUser, AddChannel, Subscribe, Send}
+use Rattle.notifyd.specs.declared.line.Line.{Line}
+use Rattle.notifyd.specs.declared.line.Line.TheVariants.{Nothing, At, Asked, Mail}
+use Rattle.notifyd.specs.Field.{column_of, is_space, field_start, word_end, word_at, word_field, number_of, moment_of, switch_of, string_field, text_field, line_end}
+
+-- what a part of a line reads as, or the column at which the line is bad
+infixl 10 ◌>>=◌
+abbrev pub ◌>>=◌ : {A B : Type 0} → Result A ℕ → (A → Result B ℕ) → Result B ℕ
+Ok value >>= next = next value
+Err column >>= next = Err column
+
+-- `at MOMENT`
+unfoldable pub at_line : List ℕ → ℕ → Result Line ℕ
+at_line line place = do
+  moment ← word_field moment_of line place
+  end ← line_end line moment.1
+  Ok (At moment.0)
+
+-- `user STR`
+unfoldable pub user_line : List ℕ → ℕ → Result Line ℕ
+user_line line place = do
+  name ← string_field line place
+  end ← line_end line name.1
+  Ok (Asked (AddUser name.0 false))
+
+-- `channel STR`
+unfoldable pub channel_line : List ℕ → ℕ → Result Line ℕ
+channel_line line place = do
+  name ← string_field line place
+  end ← line_end line name.1
+  Ok (Asked (AddChannel name.0))
+
+-- `sub ID ID BOOL`: user, channel
+unfoldable pub subscribe_line : List ℕ → ℕ → Result Line ℕ
+subscribe_line line place = do
+  user ← word_field number_of line place
+  channel ← word_field number_of line user.1
+  on ← word_field switch_of line channel.1
+  end ← line_end line on.1
+  Ok (Asked (Subscribe (record { 0 = user.0 }) (record { 0 = channel.0 }) on.0))
+
+-- `send ID ID STR STR`: sender, channel, topic, text
+unfoldable pub send_line : List ℕ → ℕ → Result Line ℕ
+send_line line place = do
+  sender ← word_field number_of line place
+  channel ← word_field number_of line sender.1
+  topic ← string_field line channel.1
+  text ← text_field line topic.1
+  end ← line_end line text.1
+  Ok (Asked (Send (record { 0 = sender.0 }) (record { 0 = channel.0 }) topic.0 text.0))
+
+-- `mail`
+unfoldable pub mail_line : List ℕ → ℕ → Result Line ℕ
+mail_line line place = do
+  end ← line_end line place
+  Ok Mail
+
+-- a line of fields: its first word says which fields follow, and another first word is a bad field
+unfoldable pub fields_reading : List ℕ → Result Line ℕ
+fields_reading line =
+    let start = field_start line 0 in
+    let word = word_at line start in
+    let place = word_end line start in
+    if bytes_eq word (codes "at") then at_line line place
+    else (if bytes_eq word (codes "user") then user_line line place
+    else (if bytes_eq word (codes "channel") then channel_line line place
+    else (if bytes_eq word (codes "sub") then subscribe_line line place
+    else (if bytes_eq word (codes "send") then send_line line place
+    else (if bytes_eq word (codes "mail") then mail_line line place
+    else Err (column_of start))))))
+
+-- a line that is empty, has only spaces, or whose first byte is `#`
+unfoldable pub is_nothing : List ℕ → Bool
+is_nothing line = list_all is_space line || slice_index line 0 == 35
+
+-- the last byte is this one
+abbrev pub ends_in : ℕ → List ℕ → Bool
+ends_in byte bytes = nat_lt 0 (length bytes) && slice_index bytes (length bytes - 1) == byte
+
+-- the bytes without a last one that is this one
+unfoldable pub without_last : ℕ → List ℕ → List ℕ
+without_last byte bytes = if ends_in byte bytes then take (length bytes - 1) bytes else bytes
+
+-- a line without its line feed
+abbrev pub body_of : List ℕ → List ℕ
+body_of bytes = without_last 10 bytes
+
+-- a line without its line feed and without a carriage return before it
+unfoldable pub content_of : List ℕ → List ℕ
+content_of bytes = if ends_in 10 bytes then without_last 13 (body_of bytes) else bytes
+
+-- the most bytes that a line may have without its line feed
+abbrev pub max_line : ℕ
+max_line = 131072
+
+-- what a line reads as, given without what ends it
+unfoldable pub content_reading : List ℕ → Result Line ℕ
+content_reading line = if is_nothing line then Ok Nothing else fields_reading line
+
+-- what a line reads as, given with its line feed where it has one; else the column at which it is bad:
+-- where it is too long, else where it stops being UTF-8, else where its fields are bad
+unfoldable pub reading : List ℕ → Result Line ℕ
+reading bytes =
+    let body = body_of bytes in
+    if nat_lt max_line (length body) then Err (max_line + 1)
+    else (if nat_lt (utf8_valid_len body) (length body) then Err (column_of (utf8_valid_len body))
+    else content_reading (content_of bytes))
+
+-- the line is a request
+abbrev pub IsRequest : Line → Type 0
+IsRequest Nothing = ⊥
+IsRequest (At moment) = ⊥
+IsRequest (Asked request) = Unit {0}
+IsRequest Mail = ⊥

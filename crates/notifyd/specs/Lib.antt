@@ -1,0 +1,13 @@
+pub mod Count
+pub mod Device
+pub mod MemoryDevices
+pub mod Sink
+pub mod Words
+pub mod Reply
+pub mod LastLine
+pub mod PlainText
+pub mod Field
+pub mod Quoted
+pub mod Form
+pub mod Grammar
+pub mod Fault

@@ -1,0 +1,32 @@
+-- The words in which answers are printed.
+use Rattle.std.specs.Prelude.{ℕ, List, ◌++◌, ◌∷◌, [], codes, decimal, Some, None}
+use Rattle.chat_model.specs.declared.request.Answer.{Answer}
+use Rattle.chat_model.specs.declared.request.Answer.TheVariants.{User, Channel, Sent, Done}
+use Rattle.chat_model.specs.declared.request.Refusal.{Refusal}
+use Rattle.chat_model.specs.declared.request.Refusal.TheVariants.{NoUser, NoChannel, NotSubscribed}
+use Rattle.office.specs.declared.answer.MailAnswer.{MailAnswer}
+use Rattle.office.specs.declared.answer.MailAnswer.TheVariants.{Mailed, NotDue}
+
+-- a line of these words, ended by a line feed
+abbrev pub line_of : List ℕ → List ℕ
+line_of words = words ++ 10 ∷ []
+
+-- what a request that was granted is answered
+abbrev pub answer_words : Answer → List ℕ
+answer_words (User user) = codes "user " ++ decimal user.0
+answer_words (Channel channel) = codes "channel " ++ decimal channel.0
+answer_words (Sent message deal) = codes "sent " ++ decimal message.0 ++ codes " deal " ++ decimal deal.0
+answer_words Done = codes "ok"
+
+-- what a mail turn is answered
+abbrev pub mail_words : MailAnswer → List ℕ
+mail_words (Mailed user entries dropped) =
+    codes "mailed " ++ decimal user.0 ++ codes " entries=" ++ decimal entries ++ codes " dropped=" ++ decimal dropped
+mail_words (NotDue (Some moment)) = codes "not due " ++ decimal moment
+mail_words (NotDue None) = codes "not due -"
+
+-- the number of a refusal
+abbrev pub refusal_number : Refusal → ℕ
+refusal_number NoUser = 10
+refusal_number NoChannel = 11
+refusal_number NotSubscribed = 16

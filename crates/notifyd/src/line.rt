@@ -1,0 +1,126 @@
+//! The lines of a script, and how one is read.
+ghost use Rattle.std.specs.Prelude.{◌≡◌, ◌≤◌, List, length, IfOk, IfErr, IsUtf8, Ok, Err};
+ghost use Rattle.std.specs.List.{list_all};
+ghost use Rattle.notifyd.specs.Field.{is_space};
+ghost use Rattle.notifyd.specs.Grammar.{reading, content_reading, body_of, content_of, ends_in, without_last, is_nothing};
+ghost use Rattle.notifyd.specs.Fault.{MatchesFault};
+
+use crate::field::column_of;
+use crate::form::{make_line, read_form};
+use chat_model::{Moment, OutOfMemory, Request};
+use std::alloc::Global;
+
+/// The most bytes that a line may have without its line feed.
+pub const MAX_LINE: usize = 131_072;
+
+/// A byte of a line, counted from 1.
+pub type Column = u64;
+
+/// What a line says.
+#[derive(Debug, Drop)]
+pub enum Line {
+    /// A line that is empty, has only spaces, or is a comment. It has no answer.
+    Nothing,
+    /// The clock is set.
+    At(Moment),
+    /// A request for the office.
+    Asked(Request),
+    /// A mail turn.
+    Mail,
+}
+
+/// Why a line was not read.
+#[derive(Clone, Copy, Debug, PartialEq, Eq)]
+pub enum LineFault {
+    /// The line is bad at this column.
+    BadLine { column: Column },
+    /// Memory was wanted.
+    OutOfMemory,
+}
+
+/// Reads one line, given with its line feed where it has one; no line feed stands before the last byte.
+#[tactic(auto, unfolding(crate::specs::Grammar::reading))]
+pub fn read_line(alloc: Global, bytes: &[u8]) -> Result<Line, LineFault>
+    ensures ok { IfOk result (λ line. reading bytes.now ≡ Ok line) }
+    ensures err { IfErr result (MatchesFault (reading bytes.now)) }
+{
+    let body = body_of(bytes);
+    if body.len() > MAX_LINE {
+        return Err(LineFault::BadLine {
+            column: MAX_LINE as u64 + 1,
+        });
+    }
+    if let Err(error) = std::str::from_utf8(body) {
+        return Err(LineFault::BadLine {
+            column: column_of(error.valid_up_to()),
+        });
+    }
+    read_content(alloc, content_of(bytes))
+}
+
+// Reads a line without what ends it.
+#[tactic(auto, unfolding(crate::specs::Grammar::content_reading))]
+fn read_content(alloc: Global, line: &[u8]) -> Result<Line, LineFault>
+    requires small { length line.now ≤ MAX_LINE }
+    requires utf8 { IsUtf8 line.now }
+    ensures ok { IfOk result (λ read. content_reading line.now ≡ Ok read) }
+    ensures err { IfErr result (MatchesFault (content_reading line.now)) }
+{
+    if is_nothing(line) {
+        return Ok(Line::Nothing);
+    }
+    match read_form(line) {
+        Ok(form) => match make_line(alloc, line, form) {
+            Ok(made) => Ok(made),
+            Err(OutOfMemory) => Err(LineFault::OutOfMemory),
+        },
+        Err(column) => Err(LineFault::BadLine { column }),
+    }
+}
+
+#[tactic(auto, unfolding(crate::specs::Grammar::is_nothing))]
+fn is_nothing(line: &[u8]) -> bool
+    ensures { result ≡ is_nothing line.now }
+{
+    is_blank(line) || line[0] == b'#'
+}
+
+fn is_blank(line: &[u8]) -> bool
+    ensures { result ≡ list_all is_space line.now }
+{
+    line.iter().all(|byte| *byte == b' ')
+}
+
+fn body_of(bytes: &[u8]) -> &[u8]
+    ensures { result.now ≡ body_of bytes.now }
+{
+    without_last(bytes, b'\n')
+}
+
+#[tactic(auto, unfolding(crate::specs::Grammar::content_of))]
+fn content_of(bytes: &[u8]) -> &[u8]
+    ensures { result.now ≡ content_of bytes.now }
+{
+    if ends_in(bytes, b'\n') {
+        without_last(body_of(bytes), b'\r')
+    } else {
+        bytes
+    }
+}
+
+#[tactic(auto, unfolding(crate::specs::Grammar::without_last))]
+fn without_last(bytes: &[u8], byte: u8) -> &[u8]
+    ensures { result.now ≡ without_last byte bytes.now }
+{
+    if ends_in(bytes, byte) {
+        &bytes[..bytes.len() - 1]
+    } else {
+        bytes
+    }
+}
+
+fn ends_in(bytes: &[u8], byte: u8) -> bool
+    ensures { result ≡ ends_in byte bytes.now }
+{
+    !bytes.is_empty() && bytes[bytes.len() - 1] == byte
+}

@@ -1,0 +1,131 @@
+//! What a line is answered, and its text.
+ghost use Rattle.std.specs.Prelude.{◌≡◌, ◌+◌, ◌≤◌, ◌++◌, length, codes, decimal, IfOk, OnOk, OnErr};
+ghost use Rattle.std.specs.Option.{option_map};
+ghost use Rattle.notifyd.specs.Count.{HasRisen};
+ghost use Rattle.notifyd.specs.Sink.{WritesFront};
+ghost use Rattle.notifyd.specs.Words.{answer_words, mail_words, refusal_number};
+ghost use Rattle.notifyd.specs.Reply.{reply_text};
+
+use crate::print_line::{LineBuffer, push_number};
+use crate::sink::write_all;
+use crate::{Failed, Sink};
+use chat_model::{Answer, OutOfMemory, Refusal, Text};
+use office::MailAnswer;
+use std::alloc::Global;
+
+/// What a line is answered.
+#[derive(Clone, Copy, Debug, PartialEq, Eq)]
+pub enum Reply {
+    /// A request was granted.
+    Answer(Answer),
+    /// A mail turn was made, or nothing was due.
+    Mail(MailAnswer),
+    /// A request broke a rule.
+    Refused(Refusal),
+    /// The keeper failed.
+    KeeperFault,
+    /// Memory was wanted.
+    OutOfMemory,
+}
+
+/// The line of a reply, with its line feed.
+pub fn print_reply(alloc: Global, reply: &Reply) -> Result<Text, OutOfMemory>
+    ensures { IfOk result (λ text. text ≡ reply_text reply.now) }
+{
+    Text::from_str(alloc, reply_line(reply).as_str())
+}
+
+/// Writes the line of a reply, and takes no memory. After a failure a front of the line was written.
+pub fn write_reply<O: Sink>(out: &mut O, reply: &Reply) -> Result<(), Failed>
+    ensures ok { OnOk result
+        (O.written out.new ≡ option_map (λ done. done ++ reply_text reply.now) (O.written out.old)) }
+    ensures err { OnErr result (WritesFront (reply_text reply.now) (O.written out.old) (O.written out.new)) }
+    ensures cause { OnErr result (HasRisen (O.faults out.old) (O.faults out.new)) }
+    ensures count { O.faults out.old ≤ O.faults out.new }
+{
+    write_all(out, reply_line(reply).as_str().as_bytes())
+}
+
+fn reply_line(reply: &Reply) -> LineBuffer
+    ensures { result.bytes ≡ reply_text reply.now }
+{
+    let mut line = LineBuffer::new();
+    match reply {
+        Reply::Answer(answer) => push_answer(&mut line, answer),
+        Reply::Mail(answer) => push_mail_answer(&mut line, answer),
+        Reply::Refused(refusal) => push_refusal(&mut line, *refusal),
+        Reply::KeeperFault => line.push_str("fault keeper"),
+        Reply::OutOfMemory => line.push_str("out of memory"),
+    }
+    line.push_str("\n");
+    line
+}
+
+fn push_answer(line: &mut LineBuffer, answer: &Answer)
+    requires { length line.old.bytes ≤ 100 }
+    ensures bytes { line.new.bytes ≡ line.old.bytes ++ answer_words answer.now }
+    ensures length { length line.new.bytes ≤ length line.old.bytes + 100 }
+{
+    match answer {
+        Answer::User(user) => {
+            line.push_str("user ");
+            push_number(line, user.0);
+        }
+        Answer::Channel(channel) => {
+            line.push_str("channel ");
+            push_number(line, channel.0);
+        }
+        Answer::Sent { message, deal } => {
+            line.push_str("sent ");
+            push_number(line, message.0);
+            line.push_str(" deal ");
+            push_number(line, deal.0);
+        }
+        Answer::Done => line.push_str("ok"),
+    }
+}
+
+fn push_mail_answer(line: &mut LineBuffer, answer: &MailAnswer)
+    requires { length line.old.bytes ≤ 100 }
+    ensures bytes { line.new.bytes ≡ line.old.bytes ++ mail_words answer.now }
+    ensures length { length line.new.bytes ≤ length line.old.bytes + 100 }
+{
+    match answer {
+        MailAnswer::Mailed {
+            user,
+            entries,
+            dropped,
+        } => {
+            line.push_str("mailed ");
+            push_number(line, user.0);
+            line.push_str(" entries=");
+            push_number(line, *entries);
+            line.push_str(" dropped=");
+            push_number(line, *dropped);
+        }
+        MailAnswer::NotDue(Some(moment)) => {
+            line.push_str("not due ");
+            push_number(line, *moment);
+        }
+        MailAnswer::NotDue(None) => line.push_str("not due -"),
+    }
+}
+
+fn push_refusal(line: &mut LineBuffer, refusal: Refusal)
+    requires { length line.old.bytes ≤ 100 }
+    ensures bytes { line.new.bytes ≡ line.old.bytes ++ (codes "refused " ++ decimal (refusal_number refusal)) }
+    ensures length { length line.new.bytes ≤ length line.old.bytes + 100 }
+{
+    line.push_str("refused ");
+    push_number(line, number_of(refusal));
+}
+
+fn number_of(refusal: Refusal) -> u64
+    ensures { result ≡ refusal_number refusal }
+{
+    match refusal {
+        Refusal::NoUser => 10,
+        Refusal::NoChannel => 11,
+        Refusal::NotSubscribed => 16,
+    }
+}

@@ -1,0 +1,186 @@
+//! Each public call once, with ample memory, and worked values.
+use super::*;
+use chat_model::{Answer, ChannelId, DealNo, List, MessageId, Refusal, Request, UserId};
+use office::MailAnswer;
+use std::process::Abort;
+use std::test::Fail;
+
+const SCRIPT: &[u8; 11] = b"user \"Ada\"\n";
+
+#[test]
+fn a_source_gives_its_bytes_in_pieces(rt: HostRuntime) -> Result<(), Fail> {
+    let alloc = rt.alloc();
+    let mut failing = List::new(alloc);
+    failing.push(2)?;
+    let mut source = MemorySource::new(List::from(SCRIPT.to_vec(alloc)?), 4, failing);
+    let mut piece = [0u8; 8];
+    assert_eq!(rt; source.read(&mut piece), Ok(4));
+    assert_eq!(rt; &piece[..4], b"user".as_slice());
+    assert_eq!(rt; source.read(&mut piece), Err(Failed));
+    assert_eq!(rt; source.read(&mut piece), Ok(4));
+    assert_eq!(rt; source.read(&mut piece), Ok(3));
+    assert_eq!(rt; source.read(&mut piece), Ok(0));
+    Ok(())
+}
+
+#[test]
+fn a_sink_takes_what_its_room_holds(rt: HostRuntime) -> Result<(), Fail> {
+    let alloc = rt.alloc();
+    let mut failing = List::new(alloc);
+    failing.push(1)?;
+    let mut sink = MemorySink::new(alloc, 8, failing)?;
+    assert_eq!(rt; sink.write(b"user"), Err(Failed));
+    assert_eq!(rt; sink.write(b"user 1"), Ok(6));
+    assert_eq!(rt; sink.write(b"too long"), Err(Failed));
+    assert_eq!(rt; sink.bytes(), b"user 1".as_slice());
+    Ok(())
+}
+
+#[test]
+fn a_spool_keeps_its_files(rt: HostRuntime) -> Result<(), Fail> {
+    let alloc = rt.alloc();
+    let mut failing = List::new(alloc);
+    failing.push(3)?;
+    let mut spool = MemorySpool::new(alloc, failing);
+    assert_eq!(rt; spool.put("000000001.mail", b"mail 1"), Ok(()));
+    assert_eq!(rt; spool.put("000000001.mail", b"mail 2"), Ok(()));
+    assert_eq!(rt;
+        spool.put("000000002.mail", b"mail 3"),
+        Err(PutFault::Failed)
+    );
+    assert_eq!(rt; spool.file("000000001.mail"), Some(b"mail 2".as_slice()));
+    assert_eq!(rt; spool.file("000000002.mail").is_none(), true);
+    Ok(())
+}
+
+#[test]
+fn replies_have_their_texts(rt: HostRuntime) -> Result<(), Fail> {
+    let sent = Answer::Sent {
+        message: MessageId(1),
+        deal: DealNo(0),
+    };
+    let mailed = MailAnswer::Mailed {
+        user: UserId(2),
+        entries: 1,
+        dropped: 0,
+    };
+    expect_text(&rt, Reply::Answer(Answer::User(UserId(1))), "user 1\n")?;
+    expect_text(
+        &rt,
+        Reply::Answer(Answer::Channel(ChannelId(1))),
+        "channel 1\n",
+    )?;
+    expect_text(&rt, Reply::Answer(Answer::Done), "ok\n")?;
+    expect_text(&rt, Reply::Answer(sent), "sent 1 deal 0\n")?;
+    expect_text(&rt, Reply::Mail(mailed), "mailed 2 entries=1 dropped=0\n")?;
+    expect_text(
+        &rt,
+        Reply::Mail(MailAnswer::NotDue(Some(220))),
+        "not due 220\n",
+    )?;
+    expect_text(&rt, Reply::Mail(MailAnswer::NotDue(None)), "not due -\n")?;
+    expect_text(&rt, Reply::Refused(Refusal::NoUser), "refused 10\n")?;
+    expect_text(&rt, Reply::KeeperFault, "fault keeper\n")?;
+    expect_text(&rt, Reply::OutOfMemory, "out of memory\n")
+}
+
+// The reply has this text, printed and written.
+fn expect_text<R: Abort + AllocGlobal>(rt: &R, reply: Reply, text: &str) -> Result<(), Fail> {
+    let printed = print_reply(rt.alloc(), &reply)?;
+    assert_eq!(rt; printed.as_str(), text);
+    let mut sink = MemorySink::new(rt.alloc(), 256, List::new(rt.alloc()))?;
+    assert_eq!(rt; write_reply(&mut sink, &reply), Ok(()));
+    assert_eq!(rt; sink.bytes(), text.as_bytes());
+    Ok(())
+}
+
+#[test]
+fn last_lines_have_their_texts(rt: HostRuntime) -> Result<(), Fail> {
+    let bad = LastLine::BadLine { line: 2, column: 8 };
+    let mut sink = MemorySink::new(rt.alloc(), 256, List::new(rt.alloc()))?;
+    assert_eq!(rt; write_last_line(&mut sink, &bad), Ok(()));
+    assert_eq!(rt; write_last_line(&mut sink, &LastLine::SourceFault), Ok(()));
+    assert_eq!(rt; write_last_line(&mut sink, &LastLine::TooLong), Ok(()));
+    assert_eq!(rt; write_last_line(&mut sink, &LastLine::NotEmpty), Ok(()));
+    assert_eq!(rt; write_all(&mut sink, b"end"), Ok(()));
+    assert_eq!(rt;
+        sink.bytes(),
+        b"bad line 2 column 8\nfault source\nscript too long\nnot empty\nend".as_slice()
+    );
+    Ok(())
+}
+
+#[test]
+fn bad_lines_have_their_columns(rt: HostRuntime) -> Result<(), Fail> {
+    expect_bad(&rt, b"at", 3);
+    expect_bad(&rt, b"hello", 1);
+    expect_bad(&rt, b"user \"Ada", 6);
+    expect_bad(&rt, b"send 1 one \"a\" \"x\"", 8);
+    expect_bad(&rt, b"at 137438953472\n", 4);
+    expect_bad(&rt, b"at 1 2\r\n", 6);
+    expect_bad(&rt, b"user \"a\"x\n", 6);
+    expect_bad(&rt, b" # x\n", 2);
+    expect_bad(&rt, b"user \"\xff\"\n", 7);
+    expect_bad(&rt, b"sub 1 2 yes\n", 9);
+    expect_bad(&rt, b"send 1 1 \"a\" \"`x`\"\n", 14);
+    expect_bad(&rt, b"audit\n", 1);
+    Ok(())
+}
+
+fn expect_bad<R: Abort + AllocGlobal>(rt: &R, bytes: &[u8], column: Column) {
+    match read_line(rt.alloc(), bytes) {
+        Err(LineFault::BadLine { column: found }) => assert_eq!(rt; found, column),
+        _ => panic!(rt; "the line was read"),
+    }
+}
+
+#[test]
+fn lines_are_read(rt: HostRuntime) -> Result<(), Fail> {
+    let alloc = rt.alloc();
+    assert!(rt; matches!(&read_line(alloc, b"  \r\n"), Ok(Line::Nothing)));
+    assert!(rt; matches!(&read_line(alloc, b"# audit\n"), Ok(Line::Nothing)));
+    assert!(rt; matches!(&read_line(alloc, b" mail "), Ok(Line::Mail)));
+    Ok(())
+}
+
+#[test]
+fn a_moment_is_read(rt: HostRuntime) -> Result<(), Fail> {
+    match read_line(rt.alloc(), b"at 007\r\n") {
+        Ok(line) => assert_eq!(rt; seconds_of(line), Some(7)),
+        Err(_) => panic!(rt; "the line was not read"),
+    }
+    Ok(())
+}
+
+fn seconds_of(line: Line) -> Option<u64> {
+    match line {
+        Line::At(moment) => Some(moment.seconds()),
+        _ => None,
+    }
+}
+
+#[test]
+fn a_request_is_read(rt: HostRuntime) -> Result<(), Fail> {
+    match read_line(
+        rt.alloc(),
+        b"send 1 2 \"lunch\" \"say \\\"hi\\\" @**Ben**\"\n",
+    ) {
+        Ok(
+            Line::Asked(
+                Request::Send {
+                    sender,
+                    channel,
+                    topic,
+                    text,
+                },
+            ),
+        ) => {
+            assert_eq!(rt; sender, UserId(1));
+            assert_eq!(rt; channel, ChannelId(2));
+            assert_eq!(rt; topic.as_str(), "lunch");
+            assert_eq!(rt; text.as_str(), "say \"hi\" @**Ben**");
+        }
+        _ => panic!(rt; "the line was not read"),
+    }
+    Ok(())
+}
