@@ -1,5 +1,5 @@
 -- What look-ups find in rows and in changed rows, and that ascending rows are known by their look-ups.
-use Rattle.std.proofs.Common.{◌≡◌, ℕ, Bool, true, false, cond, List, [], ◌∷◌, ◌++◌, Option, Some, None, map, filter, find, sym, ◌∙◌, ap, refl, subst}
+use Rattle.std.proofs.Common.{◌≡◌, Bool, true, false, cond, List, [], ◌∷◌, ◌++◌, Option, Some, None, map, filter, find, sym, ◌∙◌, ap, refl, subst}
 use Rattle.std.specs.declared.cmp.Ordering.{Ordering}
 use Rattle.std.specs.declared.cmp.Ordering.TheVariants.{Less, Equal, Greater}
 use Rattle.std.specs.Ordering.{ordering_reverse, is_eq, is_lt, is_gt}
@@ -353,3 +353,28 @@ changed-remove_between k xs ys a b = rw (rows_below-between k xs ys a b, rows_ab
 -- a key that is removed takes its row away
 pub changed-remove_at : (k : RowKey) (old : Row) (xs ys : List Row) → key_cmp (key_of old) k ≡ Equal → AllBelow k xs → AllAbove k ys → changed (Remove k) (xs ++ old ∷ ys) ≡ xs ++ ys
 changed-remove_at k old xs ys e a b = rw (rows_below-at k old xs ys e a b, rows_above-at k old xs ys e a b) refl
+
+-- ---- changes and look-ups together
+
+-- changed rows are the rows to which the changes lead, key by key
+pub changed_all-same : (changes : List RowChange) (rows later : List Row) → IsAscending rows → IsAscending later → ((k : RowKey) → row_after_all k changes (row_at k rows) ≡ row_at k later) → changed_all changes rows ≡ later
+changed_all-same changes rows later a b e =
+    same_rows (changed_all changes rows) later (IsAscending-changed_all changes rows a) b
+    (λ k. row_at-changed_all k changes rows ∙ e k)
+
+-- no row has the key
+abbrev pub NoneHas : RowKey → List Row → Type 0
+NoneHas k rows = AllByRecursion (λ q. is_eq (key_cmp q k) ≡ false) (map key_of rows)
+
+pub row_at-none : (k : RowKey) (rows : List Row) → NoneHas k rows → row_at k rows ≡ None
+row_at-none k [] a = refl
+row_at-none k (r ∷ rs) a = rw (a.0) (row_at-none k rs a.1)
+
+pub row_at-append_left : (k : RowKey) (xs ys : List Row) → row_at k ys ≡ None → row_at k (xs ++ ys) ≡ row_at k xs
+row_at-append_left k xs ys e = row_at-append k xs ys ∙ rw e (none_else (row_at k xs))
+
+pub row_at-append_right : (k : RowKey) (xs ys : List Row) → row_at k xs ≡ None → row_at k (xs ++ ys) ≡ row_at k ys
+row_at-append_right k xs ys e = row_at-append k xs ys ∙ rw e refl
+
+pub row_at-head_other : (k : RowKey) (r : Row) (rs : List Row) → is_eq (key_cmp (key_of r) k) ≡ false → row_at k (r ∷ rs) ≡ row_at k rs
+row_at-head_other k r rs e = rw e refl

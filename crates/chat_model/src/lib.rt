@@ -12,6 +12,8 @@ mod moment;
 mod request;
 mod row;
 mod settings;
+#[cfg(test)]
+mod tests;
 mod text;
 mod trigger;
 

@@ -1,18 +1,18 @@
 -- The place of a key in ascending rows, and what is done there.
-use Rattle.std.proofs.Common.{◌≡◌, ℕ, zero, suc, ◌+◌, ◌<◌, ◌≤◌, Bool, true, false, cond, List, [], ◌∷◌, ◌++◌, Some, None, length, get_or, set, take, drop, sym, ◌∙◌, ap, refl, subst, arith}
+use Rattle.std.proofs.Common.{◌≡◌, ℕ, zero, suc, ◌+◌, ◌<◌, ◌≤◌, Bool, true, false, cond, List, [], ◌∷◌, ◌++◌, length, get_or, set, drop, sym, ◌∙◌, ap, refl, subst, arith}
 use Rattle.std.specs.Prelude.{insert}
 use Rattle.std.specs.List.{remove}
 use Rattle.std.specs.declared.cmp.Ordering.{Ordering}
 use Rattle.std.specs.declared.cmp.Ordering.TheVariants.{Less, Equal, Greater}
-use Rattle.std.specs.Ordering.{is_eq, is_gt, is_lt}
+use Rattle.std.specs.Ordering.{is_gt, is_lt}
 use Rattle.std.proofs.Math.Seq.{drop-append_seam, set-append_seam, take-append_seam}
 use mathlib.Core.Bool.{true≢false}
 use Rattle.chat_model.specs.declared.row.Row.{Row}
 use Rattle.chat_model.specs.declared.row.RowKey.{RowKey}
 use Rattle.chat_model.specs.declared.row.RowChange.TheVariants.{Put, Remove}
 use Rattle.chat_model.specs.Rows.{key_cmp, key_of, IsAscending, rows_below, rows_above, changed}
-use Rattle.chat_model.proofs.Keys.{key_cmp_total, same_key}
-use Rattle.chat_model.proofs.Rows.{AllAbove, AllAbove-lower, AllBelow, AllBelow-rows_below, AllAbove-rows_above, IsAscending-head, IsAscending-tail, flips_Equal, flips_Greater, rows_below-none, rows_above-all, changed-put_at, changed-put_between, changed-remove_at, changed-remove_between}
+use Rattle.chat_model.proofs.Keys.{same_key}
+use Rattle.chat_model.proofs.Rows.{AllAbove, AllAbove-lower, IsAscending-head, IsAscending-tail, flips_Greater, rows_below-none, rows_above-all}
 use Rattle.keeper.specs.Places.{stands_at}
 
 -- rows from a row that is not below the key on
@@ -82,8 +82,8 @@ found_at k [] a h = cc
 found_at k (r ∷ rs) a h = by (key_cmp (key_of r) k) refl h (found_at k rs (IsAscending-tail r rs a))
   where
     by : (o : Ordering) → key_cmp (key_of r) k ≡ o → stands_at k (r ∷ rs) (length (cond (is_lt o) (r ∷ rows_below k rs) (rows_below k rs))) ≡ true
-      → (stands_at k rs (length (rows_below k rs)) ≡ true → IsRoundOne rs (rows_below k rs) (rows_above k rs))
-      → IsRoundOne (r ∷ rs) (cond (is_lt o) (r ∷ rows_below k rs) (rows_below k rs)) (cond (is_gt o) (r ∷ rows_above k rs) (rows_above k rs))
+        → (stands_at k rs (length (rows_below k rs)) ≡ true → IsRoundOne rs (rows_below k rs) (rows_above k rs))
+        → IsRoundOne (r ∷ rs) (cond (is_lt o) (r ∷ rows_below k rs) (rows_below k rs)) (cond (is_gt o) (r ∷ rows_above k rs) (rows_above k rs))
     by Less e f ih = let p : IsRoundOne rs (rows_below k rs) (rows_above k rs) = ih f in (p.0, ap (λ t. r ∷ t) p.1)
     by Equal e f ih =
         let above : AllAbove k rs = none_below k r rs a Equal e refl in
@@ -99,8 +99,8 @@ not_found_at k [] a h = refl
 not_found_at k (r ∷ rs) a h = by (key_cmp (key_of r) k) refl h (not_found_at k rs (IsAscending-tail r rs a))
   where
     by : (o : Ordering) → key_cmp (key_of r) k ≡ o → stands_at k (r ∷ rs) (length (cond (is_lt o) (r ∷ rows_below k rs) (rows_below k rs))) ≡ false
-      → (stands_at k rs (length (rows_below k rs)) ≡ false → rs ≡ rows_below k rs ++ rows_above k rs)
-      → r ∷ rs ≡ cond (is_lt o) (r ∷ rows_below k rs) (rows_below k rs) ++ cond (is_gt o) (r ∷ rows_above k rs) (rows_above k rs)
+        → (stands_at k rs (length (rows_below k rs)) ≡ false → rs ≡ rows_below k rs ++ rows_above k rs)
+        → r ∷ rs ≡ cond (is_lt o) (r ∷ rows_below k rs) (rows_below k rs) ++ cond (is_gt o) (r ∷ rows_above k rs) (rows_above k rs)
     by Less e f ih = ap (λ t. r ∷ t) (ih f)
     by Equal e f ih =
         let none : rows_below k rs ≡ [] = rows_below-none k rs (none_below k r rs a Equal e refl) in

@@ -4,6 +4,8 @@
 mod keeper;
 mod memory;
 mod places;
+#[cfg(test)]
+mod tests;
 
 pub use keeper::{KeepFault, Keeper, Kept};
 pub use memory::MemoryKeeper;

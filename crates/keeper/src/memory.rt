@@ -4,7 +4,7 @@ ghost use Rattle.std.specs.Option.{option_map};
 ghost use Rattle.chat_model.specs.Counts.{HasRisen};
 ghost use Rattle.chat_model.specs.Rows.{IsAscending};
 ghost use Rattle.keeper.specs.Kept.{committed};
-ghost use Rattle.keeper.specs.Memory.{Memory, counted, FailsNext, IsNextCall};
+ghost use Rattle.keeper.specs.Memory.{Memory, counted, FailsNext, IsNextCall, faults_after};
 
 use crate::places::change_all;
 use crate::{KeepFault, Keeper, Kept};
@@ -78,6 +78,7 @@ impl Keeper for MemoryKeeper {
         ensures failed { IfErr result (λ fault. fault ≡ KeepFault.Failed → HasRisen self.old.faults self.new.faults) }
         ensures counted { self.old.faults ≤ self.new.faults }
         ensures exact { (result ≡ Err KeepFault.Failed) ↔ FailsNext self.old }
+        ensures faults { self.new.faults ≡ faults_after result self.old.faults }
         ensures numbered { IsNextCall self.old self.new }
     {
         if begin(&mut self.calls, &mut self.faults, self.failing.as_slice()) {
@@ -100,6 +101,7 @@ impl Keeper for MemoryKeeper {
         ensures failed { IfErr result (λ fault. fault ≡ KeepFault.Failed → HasRisen self.old.faults self.new.faults) }
         ensures counted { self.old.faults ≤ self.new.faults }
         ensures exact { (result ≡ Err KeepFault.Failed) ↔ FailsNext self.old }
+        ensures faults { self.new.faults ≡ faults_after result self.old.faults }
         ensures numbered { IsNextCall self.old self.new }
     {
         if begin(&mut self.calls, &mut self.faults, self.failing.as_slice()) {

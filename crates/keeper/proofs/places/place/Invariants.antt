@@ -6,7 +6,7 @@ abbrev pub invariant-loop-low : goal.invariant-loop-low
 invariant-loop-low l = record {
   from : l.low ≤ length (rows_below l.key l.rows);
   to : length (rows_below l.key l.rows) ≤ l.high;
-  within : l.high ≤ length l.rows
+  within : l.high ≤ length l.rows;
 }
 
 abbrev pub decreases-loop-low : goal.decreases-loop-low

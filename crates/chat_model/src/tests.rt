@@ -1,0 +1,216 @@
+use crate::{
+    ChannelId, Conversation, DealNo, Entry, EntryNo, Event, GroupId, GroupName, Item, List,
+    MessageId, Moment, OutOfMemory, Request, Row, RowChange, RowKey, Settings, Stage, Stamped,
+    Text, Trigger, UserId, UserName, Way, duplicate_all,
+};
+use std::alloc::Global;
+use std::cmp::Ordering;
+use std::test::Fail;
+
+fn ada(alloc: Global) -> Result<Text, OutOfMemory> {
+    Text::from_str(alloc, "Ada")
+}
+
+fn user_row(alloc: Global) -> Result<Row, OutOfMemory> {
+    Ok(Row::User {
+        id: UserId(1),
+        name: ada(alloc)?,
+        bot: false,
+        settings: Settings {
+            mail_mentions: true,
+            push_mentions: true,
+            push_online: false,
+            channel_mail: false,
+            channel_push: false,
+            wildcards: true,
+            followed_mail: true,
+            followed_push: true,
+            followed_wildcards: true,
+            period: 120,
+        },
+    })
+}
+
+fn mail_entry(alloc: Global) -> Result<Entry, OutOfMemory> {
+    let mut items = List::new(alloc);
+    items.push(Item {
+        message: MessageId(1),
+        sender: UserId(1),
+        sender_name: ada(alloc)?,
+        trigger: Trigger::Mention,
+        via: Some(GroupName {
+            id: GroupId(1),
+            name: Text::from_str(alloc, "ops")?,
+        }),
+        text: Text::from_str(alloc, "hi @**Ben**")?,
+    })?;
+    let Some(at) = Moment::new(220) else {
+        return Err(OutOfMemory);
+    };
+    Ok(Entry::Mail {
+        user: UserId(2),
+        name: Text::from_str(alloc, "Ben")?,
+        at,
+        conversation: Conversation::Channel {
+            channel: ChannelId(1),
+            name: Text::from_str(alloc, "team")?,
+            topic: Text::from_str(alloc, "lunch")?,
+        },
+        items,
+    })
+}
+
+#[test]
+fn moments_end_at_their_bound(rt: HostRuntime) -> Result<(), Fail> {
+    let last = Moment::new(137_438_953_471).ok_or("the last moment")?;
+    assert_eq!(rt; last.seconds(), 137_438_953_471);
+    assert!(rt; Moment::new(137_438_953_472).is_none());
+    Ok(())
+}
+
+#[test]
+fn lists_hold_their_items_in_order(rt: HostRuntime) -> Result<(), Fail> {
+    let mut list = List::new(rt.alloc());
+    assert!(rt; list.is_empty());
+    list.push(7u64)?;
+    list.push(5u64)?;
+    assert_eq!(rt; list.len(), 2);
+    assert_eq!(rt; list.as_slice(), [7, 5].as_slice());
+    let copy = list.copy()?;
+    assert_eq!(rt; copy.as_slice(), [7, 5].as_slice());
+    let again = List::from(copy.into_vec());
+    assert_eq!(rt; again.len(), 2);
+    Ok(())
+}
+
+#[test]
+fn texts_hold_their_characters(rt: HostRuntime) -> Result<(), Fail> {
+    let text = Text::from_str(rt.alloc(), "\u{e9}t\u{e9}")?;
+    assert_eq!(rt; text.copy()?.as_str(), "\u{e9}t\u{e9}");
+    let made = Text::from(String::from_str(rt.alloc(), "Ada")?);
+    assert_eq!(rt; made.as_str(), "Ada");
+    Ok(())
+}
+
+#[test]
+fn names_are_copied(rt: HostRuntime) -> Result<(), Fail> {
+    let alloc = rt.alloc();
+    let user = UserName {
+        id: UserId(1),
+        name: ada(alloc)?,
+    };
+    let copy = user.copy(alloc)?;
+    assert_eq!(rt; copy.id, UserId(1));
+    assert_eq!(rt; copy.name.as_str(), "Ada");
+    let group = GroupName {
+        id: GroupId(3),
+        name: Text::from_str(alloc, "ops")?,
+    };
+    let copy = group.copy(alloc)?;
+    assert_eq!(rt; copy.id, GroupId(3));
+    assert_eq!(rt; copy.name.as_str(), "ops");
+    Ok(())
+}
+
+#[test]
+fn events_are_copied(rt: HostRuntime) -> Result<(), Fail> {
+    let alloc = rt.alloc();
+    let at = Moment::new(100).ok_or("a moment")?;
+    let event = Event::Asked(Request::AddUser {
+        name: ada(alloc)?,
+        bot: true,
+    });
+    let copy = Stamped { at, event }.copy(alloc)?;
+    assert_eq!(rt; copy.at.seconds(), 100);
+    match copy.event {
+        Event::Asked(Request::AddUser { name, bot }) => {
+            assert_eq!(rt; name.as_str(), "Ada");
+            assert!(rt; bot);
+        }
+        _ => panic!(rt; "another event"),
+    }
+    Ok(())
+}
+
+#[test]
+fn entries_are_copied_with_their_items(rt: HostRuntime) -> Result<(), Fail> {
+    let alloc = rt.alloc();
+    match mail_entry(alloc)?.copy(alloc)? {
+        Entry::Mail {
+            user,
+            name,
+            at,
+            conversation,
+            items,
+        } => {
+            assert_eq!(rt; user, UserId(2));
+            assert_eq!(rt; name.as_str(), "Ben");
+            assert_eq!(rt; at.seconds(), 220);
+            match conversation {
+                Conversation::Channel {
+                    channel,
+                    name,
+                    topic,
+                } => {
+                    assert_eq!(rt; channel, ChannelId(1));
+                    assert_eq!(rt; name.as_str(), "team");
+                    assert_eq!(rt; topic.as_str(), "lunch");
+                }
+            }
+            let items = items.into_vec();
+            assert_eq!(rt; items.len(), 1);
+            assert_eq!(rt; items[0].message, MessageId(1));
+            assert_eq!(rt; items[0].text.as_str(), "hi @**Ben**");
+        }
+    }
+    Ok(())
+}
+
+#[test]
+fn rows_are_copied_with_their_keys(rt: HostRuntime) -> Result<(), Fail> {
+    let alloc = rt.alloc();
+    let rows = [
+        user_row(alloc)?,
+        Row::Pending {
+            user: UserId(2),
+            message: MessageId(1),
+            way: Way::Mail,
+            trigger: Trigger::Mention,
+            deal: DealNo(0),
+            stage: Stage::Ready,
+        },
+    ];
+    let copies = duplicate_all(alloc, rows.as_slice())?;
+    assert_eq!(rt; copies.len(), 2);
+    assert_eq!(rt; copies[0].key(), RowKey::User(UserId(1)));
+    assert_eq!(rt;
+        copies[1].key(),
+        RowKey::Pending(UserId(2), MessageId(1), Way::Mail)
+    );
+    let outbox = Row::Outbox {
+        number: EntryNo(1),
+        entry: mail_entry(alloc)?,
+        spooled: false,
+    };
+    match RowChange::Put(outbox).copy(alloc)? {
+        RowChange::Put(row) => assert_eq!(rt; row.key(), RowKey::Outbox(EntryNo(1))),
+        RowChange::Remove(_) => panic!(rt; "another change"),
+    }
+    Ok(())
+}
+
+#[test]
+fn keys_stand_by_table_then_by_number(rt: HostRuntime) {
+    let user = RowKey::User(UserId(9));
+    let message = RowKey::Message(MessageId(1));
+    let mail = RowKey::Pending(UserId(1), MessageId(2), Way::Mail);
+    let push = RowKey::Pending(UserId(1), MessageId(2), Way::Push);
+    let later = RowKey::Pending(UserId(2), MessageId(1), Way::Mail);
+    let outbox = RowKey::Outbox(EntryNo(1));
+    assert_eq!(rt; user.compare(message), Ordering::Less);
+    assert_eq!(rt; message.compare(mail), Ordering::Less);
+    assert_eq!(rt; mail.compare(push), Ordering::Less);
+    assert_eq!(rt; push.compare(later), Ordering::Less);
+    assert_eq!(rt; outbox.compare(later), Ordering::Greater);
+    assert_eq!(rt; outbox.compare(outbox), Ordering::Equal);
+}
