@@ -1,5 +1,5 @@
 -- When a user's mails are due.
-use Rattle.std.specs.Prelude.{ℕ, ◌+◌, Bool, ◌&&◌, ◌==◌, nat_lt, List, Option, Some, None, is_some, is_none, filter, option_map, if◌then◌else◌}
+use Rattle.std.specs.Prelude.{ℕ, ◌+◌, Bool, ◌&&◌, ◌==◌, nat_lt, List, Option, is_some, is_none, filter, option_map, if◌then◌else◌}
 use Rattle.std.specs.List.{filter_map, reduce}
 use Rattle.chat_model.specs.declared.event.Stamped.{Stamped}
 use Rattle.chat_model.specs.declared.ids.UserId.{UserId}

@@ -1,5 +1,5 @@
 -- Owed notices, and what becomes of each.
-use Rattle.std.specs.Prelude.{ℕ, ◌+◌, Bool, true, false, ◌&&◌, ◌==◌, List, [], ◌∷◌, Option, Some, None, option_and_then, is_some, is_none, length, find, filter, option_map, if◌then◌else◌}
+use Rattle.std.specs.Prelude.{◌+◌, Bool, true, false, ◌&&◌, ◌==◌, List, [], ◌∷◌, Option, Some, option_and_then, is_some, is_none, length, find, filter, option_map, if◌then◌else◌}
 use Rattle.std.specs.Option.{option_map_or}
 use Rattle.std.specs.List.{filter_map, flat_map}
 use Rattle.chat_model.specs.declared.event.Stamped.{Stamped}

@@ -1,6 +1,6 @@
 -- What there is, and the values before a position. A function of a journal means here: of the events before
 -- the position that is spoken of.
-use Rattle.std.specs.Prelude.{ℕ, zero, suc, ◌+◌, ◌<◌, Bool, true, false, ◌&&◌, ◌==◌, nat_lt, nat_le, List, [], ◌∷◌, Option, Some, None, is_some, unwrap_or, length, map, slice_get, count_by, if◌then◌else◌}
+use Rattle.std.specs.Prelude.{ℕ, zero, suc, ◌+◌, Bool, true, false, ◌&&◌, ◌==◌, List, [], ◌∷◌, Option, Some, None, is_some, unwrap_or, length, map, slice_get, count_by, if◌then◌else◌}
 use Rattle.std.specs.Option.{option_map_or}
 use Rattle.std.specs.List.{filter_map, range_with_len}
 use Rattle.chat_model.specs.declared.event.Stamped.{Stamped}
@@ -9,7 +9,6 @@ use Rattle.chat_model.specs.declared.event.Event.TheVariants.{Asked}
 use Rattle.chat_model.specs.declared.request.Request.TheVariants.{AddUser, AddChannel, Subscribe, Send}
 use Rattle.chat_model.specs.declared.ids.UserId.{UserId}
 use Rattle.chat_model.specs.declared.ids.ChannelId.{ChannelId}
-use Rattle.chat_model.specs.declared.ids.MessageId.{MessageId}
 use Rattle.chat_model.specs.declared.settings.Settings.{Settings}
 use Rattle.chat_model.specs.declared.mentions.UserName.{UserName}
 use Rattle.chat_model.specs.Settings.{default_settings}

@@ -2,5 +2,10 @@
 #![tactic(auto)]
 
 mod answer;
+mod apply;
+mod office;
+mod prepared;
+mod tables;
 
 pub use answer::{AskFault, MailAnswer, StartFault, StepFault};
+pub use office::Office;
