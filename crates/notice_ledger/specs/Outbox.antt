@@ -49,9 +49,11 @@ by_message (n ∷ ns) = put_by_message n (by_message ns)
 abbrev pub mail_entries : List Stamped → ℕ → UserId → List Entry
 mail_entries j at u = if switch_on j u ways.Mail then map (mail_entry j at) (by_message (batch_rows j u)) else []
 
+-- the entries that an event at a stamp adds
 abbrev pub entries_by : List Stamped → ℕ → Event → List Entry
 entries_by past at (MailTurn u) = mail_entries past at u
 entries_by past at _ = []
 
+-- the entries that the events add, in their order
 unfoldable pub outbox : List Stamped → List Entry
 outbox j = flat_map (λ o. entries_by o.past o.at o.event) (occurrences j)

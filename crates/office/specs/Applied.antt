@@ -18,6 +18,7 @@ pub record Room : Type 0 where
   pub name : List ℕ
   pub subscribers : List UserId
 
+-- a kept channel, as it is read
 abbrev pub room : Channel → Room
 room c = record { name = c.name; subscribers = c.subscribers.items }
 
@@ -37,31 +38,38 @@ abbrev pub changed_numbered : {A : Type 0} → ℕ → (A → A) → List A → 
 changed_numbered zero f xs = xs
 changed_numbered (suc n) f xs = changed_at n f xs
 
+-- a room after a user subscribes or leaves
 abbrev pub with_subscriber : UserId → Bool → Room → Room
 with_subscriber u on c = record { name = c.name; subscribers = subscribers_after u on c.subscribers }
 
+-- the named users after an effect
 abbrev pub names_after : Effect → List UserName → List UserName
 names_after (effect.User user bot) names = names ++ user ∷ []
 names_after _ names = names
 
+-- which users are bots after an effect
 abbrev pub bots_after : Effect → List Bool → List Bool
 bots_after (effect.User user bot) bots = bots ++ bot ∷ []
 bots_after _ bots = bots
 
+-- the rooms after an effect
 abbrev pub rooms_after : Effect → List Room → List Room
 rooms_after (effect.Channel name) rooms = rooms ++ record { name = name; subscribers = [] } ∷ []
 rooms_after (effect.Subscription user channel on) rooms = changed_numbered channel.0 (with_subscriber user on) rooms
 rooms_after _ rooms = rooms
 
+-- the messages after an effect
 abbrev pub messages_after : Effect → List Message → List Message
 messages_after (effect.Message message waiting) messages = messages ++ message ∷ []
 messages_after _ messages = messages
 
+-- the notices that wait after an effect
 abbrev pub waiting_after : Effect → List Waiting → List Waiting
 waiting_after (effect.Message message new) waiting = waiting ++ new.items
 waiting_after (effect.Mailed user entries) waiting = filter (λ w. not (is_mail_to user w)) waiting
 waiting_after _ waiting = waiting
 
+-- the outbox after an effect
 abbrev pub outbox_after : Effect → List Entry → List Entry
 outbox_after (effect.Mailed user entries) outbox = outbox ++ entries.items
 outbox_after _ outbox = outbox

@@ -28,13 +28,15 @@ use Rattle.office.specs.declared.prepared.Effect.{Effect}
 use Rattle.office.specs.declared.prepared.Effect.TheVariants as effect
 use Rattle.office.specs.Tables.{is_subscriber, is_mail_to, entries_in}
 
--- the row of a notice that waits, and its key
+-- the row of a notice that waits
 abbrev pub notice_row : Waiting → Row
 notice_row w = row.Pending w.user w.message w.way w.trigger w.deal Ready
 
+-- the key of a notice's row
 abbrev pub key_of_notice : Waiting → RowKey
 key_of_notice w = key.Pending w.user w.message w.way
 
+-- the user is a bot of the tables
 abbrev pub is_bot_in : Tables → UserId → Bool
 is_bot_in t u = unwrap_or (numbered u.0 t.bots.items) false
 

@@ -26,10 +26,11 @@ use Rattle.office.specs.declared.tables.Waiting.{Waiting}
 use Rattle.office.specs.declared.tables.DueUser.{DueUser as FoundDue}
 use Rattle.office.specs.declared.tables.Tables.{Tables}
 
--- a channel's name, a message and a notice as the tables keep them
+-- a message as the tables keep it
 abbrev pub message_kept : SentMessage → Message
 message_kept m = record { sender = m.sender; channel = m.channel; topic = m.topic; text = m.text }
 
+-- a notice as the tables keep it
 abbrev pub notice_kept : Notice → Waiting
 notice_kept n = record { user = n.user; message = n.number; way = n.way; trigger = n.trigger; deal = n.deal; ready = n.owing.at }
 
@@ -49,12 +50,15 @@ pub record StandsFor (t : Tables) (j : List Stamped) : Type 0 where
 
 -- ---- what the look-ups read
 
+-- the tables have the user
 abbrev pub has_user : Tables → UserId → Bool
 has_user t u = is_some (numbered u.0 t.names.items)
 
+-- the tables have the channel
 abbrev pub has_channel : Tables → ChannelId → Bool
 has_channel t c = is_some (numbered c.0 t.channels.items)
 
+-- the refusal that the tables give
 abbrev pub refusal_in : Tables → Request → Option Refusal
 refusal_in t (request.AddUser name bot) = None
 refusal_in t (request.AddChannel name) = None
@@ -68,12 +72,15 @@ refusal_in t (request.Send sender channel topic text) =
 abbrev pub is_mail_to : UserId → Waiting → Bool
 is_mail_to u w = w.user.0 == u.0 && same_way w.way ways.Mail
 
+-- the due moment that the tables give
 abbrev pub due_in : Tables → UserId → Option ℕ
 due_in t u = option_map (λ w. w.ready + 120) (find (is_mail_to u) t.waiting.items)
 
+-- a user with the due moment that the tables give
 abbrev pub due_user_in : Tables → UserName → Option DueUser
 due_user_in t name = option_map (λ d. record { due = d; user = name.id }) (due_in t name.id)
 
+-- the user with the least due moment of the tables
 abbrev pub first_due_in : Tables → Option DueUser
 first_due_in t = reduce sooner (filter_map (due_user_in t) t.names.items)
 
@@ -81,9 +88,11 @@ first_due_in t = reduce sooner (filter_map (due_user_in t) t.names.items)
 abbrev pub found_due : FoundDue → DueUser
 found_due d = record { due = d.due; user = d.user }
 
+-- a user's name in the tables, empty where it is not there
 abbrev pub name_in : Tables → UserId → List ℕ
 name_in t u = option_map_or (λ n. n.name) (numbered u.0 t.names.items) []
 
+-- a channel's name in the tables, empty where it is not there
 abbrev pub channel_name_in : Tables → ChannelId → List ℕ
 channel_name_in t c = option_map_or (λ ch. ch.name) (numbered c.0 t.channels.items) []
 
@@ -99,6 +108,7 @@ entry_from t at w m =
       text = m.text;
     } ∷ [])
 
+-- the entry of a notice, where its message is there
 abbrev pub entry_in : Tables → ℕ → Waiting → Option Entry
 entry_in t at w = option_map (entry_from t at w) (numbered w.message.0 t.messages.items)
 

@@ -6,6 +6,8 @@ mod apply;
 mod office;
 mod prepared;
 mod tables;
+#[cfg(test)]
+mod tests;
 
 pub use answer::{AskFault, MailAnswer, StartFault, StepFault};
 pub use office::Office;
