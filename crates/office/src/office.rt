@@ -4,8 +4,8 @@ ghost use Rattle.chat_model.specs.Counts.{HasRisen};
 ghost use Rattle.chat_model.specs.declared.event.Event.TheVariants.{Restart, Asked};
 ghost use Rattle.chat_model.specs.declared.request.Refusal.{Refusal};
 ghost use Rattle.notice_ledger.specs.Journal.{stamp, last_stamp};
-ghost use Rattle.notice_ledger.specs.Lawful.{refusal, is_lawful_after};
-ghost use Rattle.office.specs.Office.{IsOffice};
+ghost use Rattle.notice_ledger.specs.Lawful.{IsLawful, refusal, is_lawful_after};
+ghost use Rattle.office.specs.Office.{IsOffice, KeptStandsFor};
 
 use crate::tables::{DueUser, Tables};
 use crate::{AskFault, MailAnswer, StartFault, StepFault};
@@ -101,7 +101,9 @@ impl<K: Keeper> Office<K> {
 
     /// Ends the office and gives the keeper back.
     pub fn close(self) -> K
-        ensures { result ≡ self.keeper }
+        ensures keeper { result ≡ self.keeper }
+        ensures lawful { IsLawful self.journal }
+        ensures kept { IfSome (K.kept result) (KeptStandsFor self.journal) }
     {
         self.keeper
     }
