@@ -4,3 +4,4 @@ pub mod FieldLemmas
 pub mod TextLemmas
 pub mod PlainLemmas
 pub mod LineLemmas
+pub mod PlayLemmas

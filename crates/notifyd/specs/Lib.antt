@@ -11,3 +11,5 @@ pub mod Quoted
 pub mod Form
 pub mod Grammar
 pub mod Fault
+pub mod Cut
+pub mod Play

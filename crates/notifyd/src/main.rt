@@ -7,6 +7,7 @@ mod form;
 mod last_line;
 mod line;
 mod plain_text;
+mod play;
 mod print_line;
 mod reply;
 mod sink;
