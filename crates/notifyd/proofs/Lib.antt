@@ -5,3 +5,5 @@ pub mod TextLemmas
 pub mod PlainLemmas
 pub mod LineLemmas
 pub mod PlayLemmas
+pub mod CutLemmas
+pub mod CountLemmas

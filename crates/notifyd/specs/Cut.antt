@@ -53,3 +53,8 @@ bytes_taken before after = take (length before - length after) before
 pub record GaveBytes (count : ℕ) (before after : Option (List ℕ)) : Type 0 where
   pub within : IfSome before (λ bytes. count ≤ length bytes)
   pub left : after ≡ option_map (λ bytes. drop count bytes) before
+
+-- so many lines are complete, and these bytes stand behind them
+pub record IsCutAt (cut : Cut) (number : ℕ) (under_way : List ℕ) : Type 0 where
+  pub complete : length cut.lines ≡ number
+  pub behind : cut.rest ≡ under_way

@@ -10,6 +10,7 @@ mod plain_text;
 mod play;
 mod print_line;
 mod reply;
+mod script;
 mod sink;
 mod source;
 mod spool;
