@@ -7,3 +7,4 @@ pub mod LineLemmas
 pub mod PlayLemmas
 pub mod CutLemmas
 pub mod CountLemmas
+pub mod GaveLemmas

@@ -1,5 +1,5 @@
 -- The lines of a script, cut from its bytes.
-use Rattle.std.specs.Prelude.{◌≡◌, ℕ, ◌-◌, ◌≤◌, ◌==◌, ◌||◌, Bool, List, [], ◌∷◌, ◌++◌, length, take, drop, nat_lt, fold, slice_get, Some, Option, option_map, IfSome, if◌then◌else◌, Err}
+use Rattle.std.specs.Prelude.{◌≡◌, ℕ, ◌-◌, ◌<◌, ◌≤◌, ◌==◌, ◌||◌, Bool, List, [], ◌∷◌, ◌++◌, length, take, drop, nat_lt, fold, slice_get, Some, Option, option_map, IfSome, if◌then◌else◌, Err}
 use Rattle.notifyd.specs.Grammar.{reading, max_line}
 
 -- the lines that are complete, each with its line feed, and the bytes behind them
@@ -45,16 +45,24 @@ pub record IsBadLine (lines : List (List ℕ)) (number column : ℕ) : Type 0 wh
   pub counted : 1 ≤ number
   pub bad : reading line ≡ Err column
 
--- the bytes that a source gave, by what was left in it before and after
-abbrev pub bytes_taken : List ℕ → List ℕ → List ℕ
-bytes_taken before after = take (length before - length after) before
+-- so many lines are complete, and these bytes stand behind them
+pub record IsCutAt (cut : Cut) (number : ℕ) (under_way : List ℕ) : Type 0 where
+  pub complete : length cut.lines ≡ number
+  pub behind : cut.rest ≡ under_way
 
 -- the source gave so many bytes, where it tells
 pub record GaveBytes (count : ℕ) (before after : Option (List ℕ)) : Type 0 where
   pub within : IfSome before (λ bytes. count ≤ length bytes)
   pub left : after ≡ option_map (λ bytes. drop count bytes) before
 
--- so many lines are complete, and these bytes stand behind them
-pub record IsCutAt (cut : Cut) (number : ℕ) (under_way : List ℕ) : Type 0 where
-  pub complete : length cut.lines ≡ number
-  pub behind : cut.rest ≡ under_way
+-- the source gave more bytes than so many
+pub record GaveMore (most : ℕ) (before after : Option (List ℕ)) : Type 0 where
+  pub count : ℕ
+  pub gave : GaveBytes count before after
+  pub more : most < count
+
+-- the source gave bytes of which a line is bad
+pub record GaveBadLine (cut : Cut) (bytes : List ℕ) (after : Option (List ℕ)) (number column : ℕ) : Type 0 where
+  pub count : ℕ
+  pub gave : GaveBytes count (Some bytes) after
+  pub bad : IsBadLine (all_lines (cut_on cut (take count bytes))) number column

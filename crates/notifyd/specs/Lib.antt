@@ -13,3 +13,4 @@ pub mod Grammar
 pub mod Fault
 pub mod Cut
 pub mod Play
+pub mod Status

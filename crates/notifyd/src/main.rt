@@ -1,6 +1,7 @@
 //! The program `notifyd`: it plays a script of lines over an office, and writes the answers.
 #![tactic(auto)]
 
+mod command;
 mod failed;
 mod field;
 mod form;
