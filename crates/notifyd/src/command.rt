@@ -127,3 +127,81 @@ fn start<K: Keeper>(alloc: Global, keeper: K) -> Result<(Play<K>, Vec<u8>), (Sta
         Err(fault) => Err(fault),
     }
 }
+
+// Starts the office and plays the script. Wherever it ends, the office is closed.
+fn play_script<S: Source, O: Sink, K: Keeper>(
+    alloc: Global,
+    source: &mut S,
+    out: &mut O,
+    keeper: K,
+) -> Ran<K>
+    ensures status { IsAmong statuses result.status × (result.status ≢ 1) }
+    ensures ended { result.status ≡ 0 → IfSome (S.remaining source.new) (λ bytes. bytes ≡ []) }
+    ensures bad_line { result.status ≡ 2 → IfSome (S.remaining source.old) (λ bytes.
+        (number : ℕ) × (column : ℕ) × GaveBadLine uncut bytes (S.remaining source.new) number column) }
+    ensures source_fault { result.status ≡ 3 → HasRisen (S.faults source.old) (S.faults source.new) }
+    ensures sink_fault { result.status ≡ 4 → HasRisen (O.faults out.old) (O.faults out.new) }
+    ensures keeper_fault { result.status ≡ 5 → HasRisen (K.faults keeper) (K.faults result.keeper) }
+    ensures not_empty { result.status ≡ 8 → IfSome (K.kept keeper) (λ kept. 0 < length kept.journal + length kept.rows) }
+    ensures too_long { result.status ≡ 9 → GaveMore MAX_SCRIPT (S.remaining source.old) (S.remaining source.new) }
+    ensures was_empty { IsAmong play_statuses result.status → KeptIsEmpty (K.kept keeper) }
+    ensures consistent { KeptIsConsistent (K.kept keeper) → KeptIsConsistent (K.kept result.keeper) }
+    ensures source_count { S.faults source.old ≤ S.faults source.new }
+    ensures sink_count { O.faults out.old ≤ O.faults out.new }
+    ensures keeper_count { K.faults keeper ≤ K.faults result.keeper }
+{
+    match start(alloc, keeper) {
+        Ok((play, line)) => {
+            let mut play = play;
+            let mut line = line;
+            let ending = play_source(&mut play, alloc, &mut line, source, out);
+            let Play {
+                office,
+                clock: _,
+                line: _,
+                met,
+            } = play;
+            Ran {
+                status: end_play(out, ending, met),
+                keeper: office.close(),
+            }
+        }
+        Err((fault, keeper)) => Ran {
+            status: end_start(out, fault),
+            keeper,
+        },
+    }
+}
+
+/// Runs the command that the words name: `play` plays the script that the source gives, and writes its answers.
+pub fn run<S: Source, O: Sink, K: Keeper, P: Spool>(
+    alloc: Global,
+    words: &[Text],
+    source: &mut S,
+    out: &mut O,
+    keeper: K,
+    _spool: &mut P,
+) -> Ran<K>
+    ensures status { IsAmong statuses result.status }
+    ensures command { result.status ≡ 1 → is_play words.now ≡ false }
+    ensures no_command { is_play words.now ≡ false → (result.keeper ≡ keeper) × ((result.status ≡ 1) ⊎ (result.status ≡ 4)) }
+    ensures ended { result.status ≡ 0 → IfSome (S.remaining source.new) (λ bytes. bytes ≡ []) }
+    ensures bad_line { result.status ≡ 2 → IfSome (S.remaining source.old) (λ bytes.
+        (number : ℕ) × (column : ℕ) × GaveBadLine uncut bytes (S.remaining source.new) number column) }
+    ensures source_fault { result.status ≡ 3 → HasRisen (S.faults source.old) (S.faults source.new) }
+    ensures sink_fault { result.status ≡ 4 → HasRisen (O.faults out.old) (O.faults out.new) }
+    ensures keeper_fault { result.status ≡ 5 → HasRisen (K.faults keeper) (K.faults result.keeper) }
+    ensures not_empty { result.status ≡ 8 → IfSome (K.kept keeper) (λ kept. 0 < length kept.journal + length kept.rows) }
+    ensures too_long { result.status ≡ 9 → GaveMore MAX_SCRIPT (S.remaining source.old) (S.remaining source.new) }
+    ensures was_empty { IsAmong play_statuses result.status → KeptIsEmpty (K.kept keeper) }
+    ensures consistent { KeptIsConsistent (K.kept keeper) → KeptIsConsistent (K.kept result.keeper) }
+    ensures source_count { S.faults source.old ≤ S.faults source.new }
+    ensures sink_count { O.faults out.old ≤ O.faults out.new }
+    ensures keeper_count { K.faults keeper ≤ K.faults result.keeper }
+{
+    if !is_play(words) {
+        let status = status_after(write_last_line(out, &LastLine::Usage), 1);
+        return Ran { status, keeper };
+    }
+    play_script(alloc, source, out, keeper)
+}
