@@ -4,6 +4,7 @@
 mod duplicate;
 mod entry;
 mod event;
+mod failed;
 mod ids;
 mod list;
 mod memory;
@@ -20,6 +21,7 @@ mod trigger;
 pub use duplicate::{Duplicate, duplicate_all};
 pub use entry::{Conversation, Entry, Item};
 pub use event::{Event, Stamped};
+pub use failed::Failed;
 pub use ids::{ChannelId, DealNo, EntryNo, GroupId, MessageId, UserId};
 pub use list::List;
 pub use memory::OutOfMemory;

@@ -1,12 +1,12 @@
 -- Each definition at a journal with one more event.
 use Rattle.std.proofs.Common.{◌≡◌, ℕ, ◌+◌, Bool, false, List, [], ◌∷◌, ◌++◌, cond, length, refl, sym, ap, ◌∙◌, zero-add}
-use Rattle.std.specs.Prelude.{Option, Some, None, unwrap_or, option_to_list, filter, fold, count_by, find, nat_lt, ◌&&◌}
+use Rattle.std.specs.Prelude.{Option, Some, None, unwrap_or, option_to_list, count_by, find, nat_lt, ◌&&◌}
 use Rattle.std.specs.List.{filter_map, flat_map, cons_option}
 use Rattle.std.specs.Option.{option_or}
 use Rattle.std.proofs.lemmas.List.{append_assoc, append-nil}
 use Rattle.std.proofs.lemmas.List.Sums.{fold-append, sum_by-append}
 use Rattle.std.proofs.lemmas.List.Folds.{find-append}
-use Rattle.std.proofs.lemmas.List.Elements.{filter_map-append, filter-append}
+use Rattle.std.proofs.lemmas.List.Elements.{filter_map-append}
 use Rattle.std.proofs.lemmas.Grind.{flat_map-append}
 use Rattle.chat_model.specs.declared.event.Stamped.{Stamped}
 use Rattle.chat_model.specs.declared.event.Event.{Event}

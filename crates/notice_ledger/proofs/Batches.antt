@@ -1,25 +1,23 @@
 -- A user's batch rows, due moment, and pending rows, over the notices that wait.
-use Rattle.std.proofs.Common.{◌≡◌, ℕ, ◌+◌, ◌<◌, ◌≤◌, Bool, true, false, ◌&&◌, ◌==◌, cond, List, [], ◌∷◌, ◌++◌, length, map, refl, sym, ap, ◌∙◌, subst, arith}
-use Rattle.std.specs.Prelude.{Option, Some, None, option_map, is_some, is_none, filter, find, fold, nat_lt, nat_le, if◌then◌else◌}
+use Rattle.std.proofs.Common.{◌≡◌, ◌+◌, ◌≤◌, Bool, true, false, ◌&&◌, ◌==◌, cond, List, [], ◌∷◌, map, refl, sym, ap, ◌∙◌}
+use Rattle.std.specs.Prelude.{Option, Some, None, option_map, is_none, filter, find, fold, if◌then◌else◌}
 use Rattle.std.specs.List.{AllByRecursion, filter_map, reduce, cons_option}
 use Rattle.std.specs.Option.{option_map_or}
 use Rattle.std.proofs.lemmas.Bool.{le-ltb, le-leb}
 use Rattle.std.proofs.Math.Bool.{and_comm}
 use Rattle.chat_model.specs.declared.event.Stamped.{Stamped}
 use Rattle.chat_model.specs.declared.ids.UserId.{UserId}
-use Rattle.chat_model.specs.declared.row.Row.{Row}
 use Rattle.chat_model.specs.declared.row.Row.TheVariants as row
-use Rattle.chat_model.specs.declared.row.Stage.TheVariants as stage
-use Rattle.chat_model.specs.declared.trigger.Way.TheVariants.{Mail, Push}
+use Rattle.chat_model.specs.declared.trigger.Way.TheVariants.{Mail}
 use Rattle.notice_ledger.specs.declared.account.Account.TheVariants.{Ready, Handed, Cancelled}
 use Rattle.chat_model.specs.declared.row.Cause.TheVariants.{SwitchedOff}
 use Rattle.notice_ledger.specs.Journal.{Occurrence}
 use Rattle.notice_ledger.specs.Values.{settings}
-use Rattle.notice_ledger.specs.Owed.{Notice, notices, turn, waiting, same_way, account_of, decided, switch_on}
+use Rattle.notice_ledger.specs.Owed.{Notice, notices, turn, waiting, same_way, decided, switch_on}
 use Rattle.notice_ledger.specs.Due.{batch_rows, is_batch_row, due, earlier}
 use Rattle.notice_ledger.specs.Outbox.{by_message, put_by_message}
 use Rattle.notice_ledger.specs.Rows.{pending_row, stage_of, waiting_row}
-use Rattle.notice_ledger.proofs.Lists.{filter_same_where, filter-filter, find-filter, first_of}
+use Rattle.notice_ledger.proofs.Lists.{filter-filter, find-filter, first_of}
 use Rattle.notice_ledger.proofs.Ascending.{Ascends, Ascends-filter, notices-by_place, notices-by_number}
 
 -- a mail notice of the user

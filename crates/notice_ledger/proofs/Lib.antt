@@ -4,3 +4,4 @@ pub mod Waiting
 pub mod Ascending
 pub mod Batches
 pub mod Sent
+pub mod LawfulLemmas

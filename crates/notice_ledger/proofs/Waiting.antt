@@ -1,18 +1,17 @@
 -- The notices that wait, event by event.
-use Rattle.std.proofs.Common.{◌≡◌, ℕ, ◌+◌, ◌<◌, ◌≤◌, Bool, true, false, ◌&&◌, cond, ltb, List, [], ◌∷◌, ◌++◌, length, refl, sym, ap, ◌∙◌, subst, arith}
-use Rattle.std.specs.Prelude.{Option, Some, None, option_map, option_and_then, is_some, is_none, MatchOption, not, filter, find, nat_lt}
-use Rattle.std.specs.List.{filter_map, flat_map, AllByRecursion}
+use Rattle.std.proofs.Common.{◌≡◌, ℕ, ◌+◌, ◌<◌, ◌≤◌, Bool, true, false, ◌&&◌, cond, List, [], ◌∷◌, ◌++◌, length, refl, sym, ap, ◌∙◌, subst, arith}
+use Rattle.std.specs.Prelude.{Option, Some, None, option_map, is_none, MatchOption, not, filter, nat_lt}
+use Rattle.std.specs.List.{filter_map, AllByRecursion}
 use Rattle.std.specs.Option.{option_or, option_map_or}
-use Rattle.std.proofs.lemmas.List.{append-nil, length_push}
+use Rattle.std.proofs.lemmas.List.{length_push}
 use Rattle.std.proofs.lemmas.List.Elements.{filter-append}
 use Rattle.std.proofs.lemmas.Bool.{le-ltb, lt-ltb}
 use Rattle.chat_model.specs.declared.event.Stamped.{Stamped}
-use Rattle.chat_model.specs.declared.event.Event.{Event}
 use Rattle.chat_model.specs.declared.ids.UserId.{UserId}
 use Rattle.chat_model.specs.declared.trigger.Way.{Way}
 use Rattle.chat_model.specs.declared.trigger.Way.TheVariants.{Mail, Push}
 use Rattle.chat_model.specs.declared.trigger.Trigger.{Trigger}
-use Rattle.notice_ledger.specs.Journal.{Occurrence, occurrence, occurrences, first_behind}
+use Rattle.notice_ledger.specs.Journal.{Occurrence, occurrence, first_behind}
 use Rattle.notice_ledger.specs.Values.{SentMessage, message_of, messages, users, deal_count}
 use Rattle.notice_ledger.specs.Triggers.{trigger}
 use Rattle.notice_ledger.specs.Owed.{Notice, notice_of, owed_of, owed_by, notices, turn, is_turn_of, waiting}

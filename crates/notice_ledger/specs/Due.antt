@@ -1,5 +1,5 @@
 -- When a user's mails are due.
-use Rattle.std.specs.Prelude.{ℕ, ◌+◌, Bool, ◌&&◌, ◌==◌, nat_lt, List, Option, Some, None, is_some, is_none, filter, option_map, if◌then◌else◌}
+use Rattle.std.specs.Prelude.{ℕ, ◌+◌, Bool, ◌&&◌, ◌==◌, nat_lt, List, Option, is_some, is_none, filter, option_map, if◌then◌else◌}
 use Rattle.std.specs.List.{filter_map, reduce}
 use Rattle.chat_model.specs.declared.event.Stamped.{Stamped}
 use Rattle.chat_model.specs.declared.ids.UserId.{UserId}
@@ -12,6 +12,7 @@ use Rattle.notice_ledger.specs.Owed.{Notice, notices, ready, turn, same_way}
 abbrev pub is_batch_row : List Stamped → UserId → Notice → Bool
 is_batch_row j u n = n.user.0 == u.0 && same_way n.way Mail && (is_some (ready j n) && is_none (turn j n))
 
+-- a user's batch rows, in the order of the events that owe them
 abbrev pub batch_rows : List Stamped → UserId → List Notice
 batch_rows j u = filter (is_batch_row j u) (notices j)
 
@@ -28,6 +29,7 @@ pub record DueUser : Type 0 where
   pub due : ℕ
   pub user : UserId
 
+-- a user with its due moment, where it has one
 abbrev pub due_user : List Stamped → UserId → Option DueUser
 due_user j u = option_map (λ d. record { due = d; user = u }) (due j u)
 

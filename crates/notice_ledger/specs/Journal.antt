@@ -11,9 +11,11 @@ pub record Occurrence : Type 0 where
   pub at : ℕ
   pub event : Event
 
+-- an event behind these
 abbrev pub occurrence : List Stamped → Stamped → Occurrence
 occurrence past s = record { place = length past; past = past; at = s.at; event = s.event }
 
+-- events, each with those before it, behind these
 abbrev pub occurrences_after : List Stamped → List Stamped → List Occurrence
 occurrences_after past [] = []
 occurrences_after past (s ∷ ss) = occurrence past s ∷ occurrences_after (past ++ s ∷ []) ss

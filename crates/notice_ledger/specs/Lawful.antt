@@ -38,6 +38,7 @@ abbrev pub kept_from : List Stamped → List Stamped → List Stamped
 kept_from kept [] = kept
 kept_from kept (s ∷ ss) = kept_from (if is_lawful_after kept s then kept ++ s ∷ [] else kept) ss
 
+-- the lawful events of a journal
 unfoldable pub lawful : List Stamped → List Stamped
 lawful j = kept_from [] j
 

@@ -6,3 +6,4 @@ pub mod Due
 pub mod Outbox
 pub mod Rows
 pub mod Lawful
+pub mod Conserved

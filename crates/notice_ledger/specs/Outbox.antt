@@ -1,5 +1,5 @@
 -- The outbox: the entries that the turns make, numbered from 1 in their order.
-use Rattle.std.specs.Prelude.{ℕ, Bool, nat_le, List, [], ◌∷◌, Option, Some, None, map, if◌then◌else◌}
+use Rattle.std.specs.Prelude.{ℕ, nat_le, List, [], ◌∷◌, None, map, if◌then◌else◌}
 use Rattle.std.specs.List.{flat_map}
 use Rattle.chat_model.specs.declared.event.Stamped.{Stamped}
 use Rattle.chat_model.specs.declared.event.Event.{Event}
@@ -11,7 +11,7 @@ use Rattle.chat_model.specs.declared.entry.Conversation.{Conversation}
 use Rattle.chat_model.specs.declared.entry.Conversation.TheVariants.{Channel}
 use Rattle.chat_model.specs.declared.ids.UserId.{UserId}
 use Rattle.chat_model.specs.declared.trigger.Way.TheVariants as ways
-use Rattle.notice_ledger.specs.Journal.{Occurrence, occurrences}
+use Rattle.notice_ledger.specs.Journal.{occurrences}
 use Rattle.notice_ledger.specs.Values.{user_name, channel_name}
 use Rattle.notice_ledger.specs.Owed.{Notice, switch_on}
 use Rattle.notice_ledger.specs.Due.{batch_rows}
@@ -49,9 +49,11 @@ by_message (n ∷ ns) = put_by_message n (by_message ns)
 abbrev pub mail_entries : List Stamped → ℕ → UserId → List Entry
 mail_entries j at u = if switch_on j u ways.Mail then map (mail_entry j at) (by_message (batch_rows j u)) else []
 
+-- the entries that an event at a stamp adds
 abbrev pub entries_by : List Stamped → ℕ → Event → List Entry
 entries_by past at (MailTurn u) = mail_entries past at u
 entries_by past at _ = []
 
+-- the entries that the events add, in their order
 unfoldable pub outbox : List Stamped → List Entry
 outbox j = flat_map (λ o. entries_by o.past o.at o.event) (occurrences j)

@@ -1,5 +1,5 @@
 -- Owed notices, and what becomes of each.
-use Rattle.std.specs.Prelude.{ℕ, ◌+◌, Bool, true, false, ◌&&◌, ◌==◌, List, [], ◌∷◌, Option, Some, None, option_and_then, is_some, is_none, length, find, filter, option_map, if◌then◌else◌}
+use Rattle.std.specs.Prelude.{◌+◌, Bool, true, false, ◌&&◌, ◌==◌, List, [], ◌∷◌, Option, Some, option_and_then, is_some, is_none, length, find, filter, option_map, if◌then◌else◌}
 use Rattle.std.specs.Option.{option_map_or}
 use Rattle.std.specs.List.{filter_map, flat_map}
 use Rattle.chat_model.specs.declared.event.Stamped.{Stamped}
@@ -28,6 +28,7 @@ pub record Notice : Type 0 where
   pub deal : DealNo
   pub owing : Occurrence
 
+-- two ways are the same
 abbrev pub same_way : Way → Way → Bool
 same_way Mail Mail = true
 same_way Push Push = true
@@ -50,6 +51,7 @@ notice_of o m u w =
       owing = o;
     }) (trigger m u w)
 
+-- what a message's send owes: by user, mail before push
 abbrev pub owed_of : Occurrence → SentMessage → List Notice
 owed_of o m = flat_map (λ u. filter_map (notice_of o m u) (Mail ∷ Push ∷ [])) (users o.past)
 
@@ -65,6 +67,7 @@ notices j = flat_map owed_by (occurrences j)
 abbrev pub ready : List Stamped → Notice → Option Occurrence
 ready j n = Some n.owing
 
+-- an event is a mail turn of the user
 abbrev pub is_mail_turn_of : UserId → Event → Bool
 is_mail_turn_of u (MailTurn v) = v.0 == u.0
 is_mail_turn_of u _ = false
@@ -86,9 +89,11 @@ switch_on j u w = mention_switch w (settings j u)
 abbrev pub decided : Notice → Occurrence → Account
 decided n t = if switch_on t.past n.user n.way then Handed else Cancelled SwitchedOff
 
+-- a notice that had no turn is ready behind its ready event, else in flight
 abbrev pub undecided : List Stamped → Notice → Account
 undecided j n = if is_some (ready j n) then Ready else Flight
 
+-- where an owed notice stands: by its turn, if it had one
 abbrev pub account_of : List Stamped → Notice → Account
 account_of j n = option_map_or (decided n) (turn j n) (undecided j n)
 
@@ -96,12 +101,14 @@ account_of j n = option_map_or (decided n) (turn j n) (undecided j n)
 abbrev pub account : List Stamped → UserId → MessageId → Way → Account
 account j u m w = option_map_or (account_of j) (find (is_of u m w) (notices j)) NotOwed
 
+-- a notice in flight, held or ready is pending
 abbrev pub is_pending : Account → Bool
 is_pending Flight = true
 is_pending Held = true
 is_pending Ready = true
 is_pending _ = false
 
+-- a notice that an event or a live queue cancelled
 abbrev pub is_cancelled : Account → Bool
 is_cancelled (Cancelled cause) = true
 is_cancelled LiveQueue = true

@@ -13,6 +13,7 @@ column_of place = place + 1
 abbrev pub is_space : ℕ → Bool
 is_space byte = byte == 32
 
+-- a byte that is no space
 abbrev pub is_no_space : ℕ → Bool
 is_no_space byte = not (byte == 32)
 
@@ -38,6 +39,7 @@ word_field form line place =
     let start = field_start line place in
     ok_or (option_map (λ value. (value, word_end line start)) (form (word_at line start))) (column_of start)
 
+-- a decimal digit
 abbrev pub is_digit : ℕ → Bool
 is_digit byte = nat_le 48 byte && nat_le byte 57
 

@@ -9,6 +9,7 @@ use Rattle.notifyd.specs.Field.{column_of, is_space, field_start, word_end, word
 
 -- what a part of a line reads as, or the column at which the line is bad
 infixl 10 ◌>>=◌
+-- a reading, and what is read behind it where it is no bad column
 abbrev pub ◌>>=◌ : {A B : Type 0} → Result A ℕ → (A → Result B ℕ) → Result B ℕ
 Ok value >>= next = next value
 Err column >>= next = Err column

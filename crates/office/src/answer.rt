@@ -1,5 +1,7 @@
 //! What the office answers, and why it cannot.
-use chat_model::{Refusal, UserId};
+use chat_model::{OutOfMemory, Refusal, UserId};
+use keeper::KeepFault;
+use std::alloc::AllocError;
 
 /// Why an office could not start. The kept tables are as they were.
 #[derive(Clone, Copy, Debug, PartialEq, Eq)]
@@ -43,4 +45,68 @@ pub enum MailAnswer {
     },
     /// Nothing is due. The least due moment is carried, in seconds, or `None` where there is none.
     NotDue(Option<u64>),
+}
+
+impl From<OutOfMemory> for StepFault {
+    ghost use Rattle.std.specs.Prelude.{◌≡◌};
+    ghost use Rattle.office.specs.declared.answer.StepFault.TheVariants.{OutOfMemory};
+
+    ghost from_gives = { λ _ e. e ≡ OutOfMemory };
+
+    fn from(_: OutOfMemory) -> Self {
+        StepFault::OutOfMemory
+    }
+}
+
+impl From<AllocError> for StepFault {
+    ghost use Rattle.std.specs.Prelude.{◌≡◌};
+    ghost use Rattle.office.specs.declared.answer.StepFault.TheVariants.{OutOfMemory};
+
+    ghost from_gives = { λ _ e. e ≡ OutOfMemory };
+
+    fn from(_: AllocError) -> Self {
+        StepFault::OutOfMemory
+    }
+}
+
+impl From<KeepFault> for StepFault {
+    ghost use Rattle.std.specs.Prelude.{◌≡◌};
+    ghost use Rattle.office.specs.Faults.{step_fault};
+
+    ghost from_gives = { λ f e. e ≡ step_fault f };
+
+    fn from(fault: KeepFault) -> Self {
+        match fault {
+            KeepFault::Failed => StepFault::KeeperFault,
+            KeepFault::OutOfMemory => StepFault::OutOfMemory,
+        }
+    }
+}
+
+impl From<StepFault> for AskFault {
+    ghost use Rattle.std.specs.Prelude.{◌≡◌};
+    ghost use Rattle.office.specs.Faults.{ask_fault};
+
+    ghost from_gives = { λ f e. e ≡ ask_fault f };
+
+    fn from(fault: StepFault) -> Self {
+        match fault {
+            StepFault::KeeperFault => AskFault::KeeperFault,
+            StepFault::OutOfMemory => AskFault::OutOfMemory,
+        }
+    }
+}
+
+impl From<StepFault> for StartFault {
+    ghost use Rattle.std.specs.Prelude.{◌≡◌};
+    ghost use Rattle.office.specs.Faults.{start_fault};
+
+    ghost from_gives = { λ f e. e ≡ start_fault f };
+
+    fn from(fault: StepFault) -> Self {
+        match fault {
+            StepFault::KeeperFault => StartFault::KeeperFault,
+            StepFault::OutOfMemory => StartFault::OutOfMemory,
+        }
+    }
 }

@@ -2,5 +2,12 @@
 #![tactic(auto)]
 
 mod answer;
+mod apply;
+mod office;
+mod prepared;
+mod tables;
+#[cfg(test)]
+mod tests;
 
 pub use answer::{AskFault, MailAnswer, StartFault, StepFault};
+pub use office::Office;

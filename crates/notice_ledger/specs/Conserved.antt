@@ -1,0 +1,39 @@
+-- No notice is lost and none is doubled.
+use Rattle.std.specs.Prelude.{◌≡◌, ◌≢◌, ℕ, ◌+◌, Bool, true, false, ◌&&◌, ◌==◌, List, sum_by, count_by, if◌then◌else◌}
+use Rattle.chat_model.specs.declared.event.Stamped.{Stamped}
+use Rattle.chat_model.specs.declared.entry.Entry.{Entry}
+use Rattle.chat_model.specs.declared.entry.Entry.TheVariants as entry
+use Rattle.chat_model.specs.declared.ids.UserId.{UserId}
+use Rattle.chat_model.specs.declared.ids.MessageId.{MessageId}
+use Rattle.chat_model.specs.declared.row.Row.{Row}
+use Rattle.chat_model.specs.declared.row.Row.TheVariants as row
+use Rattle.chat_model.specs.declared.trigger.Way.{Way}
+use Rattle.chat_model.specs.declared.trigger.Way.TheVariants.{Mail, Push}
+use Rattle.notice_ledger.specs.declared.account.Account.TheVariants.{NotOwed}
+use Rattle.notice_ledger.specs.Owed.{same_way, account, is_cancelled}
+use Rattle.notice_ledger.specs.Lawful.{lawful}
+
+-- a row is the pending row of a notice
+abbrev pub is_pending_row : UserId → MessageId → Way → Row → Bool
+is_pending_row u m w (row.Pending user message way trigger deal stage) = user.0 == u.0 && message.0 == m.0 && same_way way w
+is_pending_row u m w _ = false
+
+-- how many items an entry of a way has of a user's message
+abbrev pub items_of : UserId → MessageId → Way → Entry → ℕ
+items_of u m Mail (entry.Mail user name at conversation items) = if user.0 == u.0 then count_by (λ i. i.message.0 == m.0) items else 0
+items_of u m Push (entry.Mail user name at conversation items) = 0
+
+-- how many items an outbox row has of it
+abbrev pub items_in_row : UserId → MessageId → Way → Row → ℕ
+items_in_row u m w (row.Outbox number entry spooled) = items_of u m w entry
+items_in_row u m w _ = 0
+
+-- the pending rows of a notice, and its items in the outbox rows of its way
+abbrev pub places_of : UserId → MessageId → Way → List Row → ℕ
+places_of u m w rows = count_by (is_pending_row u m w) rows + sum_by (items_in_row u m w) rows
+
+-- each owed notice has one pending row, or is one item of the outbox, or is cancelled, and never two of these;
+-- a notice that is not owed has no row and no item
+pub record IsConserved (j : List Stamped) (rows : List Row) : Type 0 where
+  pub owed : (u : UserId) (m : MessageId) (w : Way) → account (lawful j) u m w ≢ NotOwed → places_of u m w rows + (if is_cancelled (account (lawful j) u m w) then 1 else 0) ≡ 1
+  pub not_owed : (u : UserId) (m : MessageId) (w : Way) → account (lawful j) u m w ≡ NotOwed → places_of u m w rows ≡ 0

@@ -1,0 +1,249 @@
+-- Tables that stand for a journal prepare what the journal's definitions say of its next event.
+use Rattle.std.proofs.Common.{◌≡◌, ℕ, suc, ◌+◌, true, false, ◌&&◌, ◌==◌, eqb, not, List, [], ◌∷◌, ◌++◌, length, map, refl, sym, ap, ◌∙◌, arith, length-append}
+use Rattle.std.specs.Prelude.{Option, Some, None, option_map, unwrap_or, filter, if◌then◌else◌}
+use Rattle.std.specs.Option.{option_map_or}
+use Rattle.std.specs.List.{filter_map, flat_map, list_any, cons_option}
+use Rattle.std.proofs.lemmas.List.{length-map, map-append, append-nil}
+use Rattle.std.proofs.Math.Bool.{and-true, and-false}
+use Rattle.std.proofs.lemmas.Bool.Decides.{nat_tests}
+use Rattle.mention_scan.specs.Mentions.{mentions}
+use Rattle.chat_model.specs.declared.event.Stamped.{Stamped}
+use Rattle.chat_model.specs.declared.event.Event.{Event}
+use Rattle.chat_model.specs.declared.event.Event.TheVariants.{Restart, Asked, MailTurn}
+use Rattle.chat_model.specs.declared.request.Request.{Request}
+use Rattle.chat_model.specs.declared.request.Answer.TheVariants as answer
+use Rattle.chat_model.specs.declared.request.Request.TheVariants.{AddUser, AddChannel, Subscribe, Send}
+use Rattle.chat_model.specs.declared.ids.UserId.{UserId}
+use Rattle.chat_model.specs.declared.ids.ChannelId.{ChannelId}
+use Rattle.chat_model.specs.declared.mentions.UserName.{UserName}
+use Rattle.chat_model.specs.declared.row.Row.TheVariants as row
+use Rattle.chat_model.specs.declared.row.RowChange.TheVariants.{Put, Remove}
+use Rattle.chat_model.specs.declared.trigger.Trigger.{Trigger}
+use Rattle.chat_model.specs.declared.trigger.Trigger.TheVariants.{Mention}
+use Rattle.chat_model.specs.declared.trigger.Way.{Way}
+use Rattle.chat_model.specs.declared.trigger.Way.TheVariants.{Mail, Push}
+use Rattle.chat_model.specs.Settings.{default_settings}
+use Rattle.notice_ledger.specs.Journal.{occurrence}
+use Rattle.notice_ledger.specs.Values.{numbered, Person, people, named_from, channels, user_names, users, is_bot, messages, SentMessage, subscribed, deal_count}
+use Rattle.notice_ledger.specs.Triggers.{trigger, is_mentioned}
+use Rattle.notice_ledger.specs.Owed.{Notice, same_way, waiting, notice_of, owed_by, is_turn_of, is_mail_turn_of}
+use Rattle.notice_ledger.specs.Due.{batch_rows}
+use Rattle.notice_ledger.specs.Outbox.{outbox, mail_entry, mail_entries}
+use Rattle.notice_ledger.specs.Rows.{outbox_rows_from, waiting_row}
+use Rattle.notice_ledger.proofs.Lists.{filter_none}
+use Rattle.notice_ledger.proofs.Appended.{outbox-append}
+use Rattle.notice_ledger.proofs.Ascending.{AllByRecursion-filter}
+use Rattle.notice_ledger.proofs.Batches.{is_mail_of, filter_same, by_message-batch_rows, batch_rows-waiting}
+use Rattle.notice_ledger.proofs.Sent.{IsOfMessage, waiting-messages, deal_count-messages}
+use Rattle.office.specs.declared.tables.Channel.{Channel}
+use Rattle.office.specs.declared.tables.Waiting.{Waiting}
+use Rattle.office.specs.declared.tables.Tables.{Tables}
+use Rattle.office.specs.Changes.{is_turn, notice_key, changes}
+use Rattle.office.specs.Tables.{StandsFor, message_kept, notice_kept, is_mail_to, entry_from, entry_in, entries_in, answer_in}
+use Rattle.office.specs.Office.{answer_of}
+use Rattle.office.specs.Prepared.{notice_row, key_of_notice, is_bot_in, notifies, next_notice, new_notices, mentioned_in, changes_in}
+use Rattle.office.proofs.Standing.{numbered-map, filter-map, filter_map-map, filter_map-given, name_in-user_name, channel_name_in-channel_name, ids-user_names}
+
+eqb-swap : (a b : ℕ) → eqb a b ≡ eqb b a
+eqb-swap a b = grind (arith, nat_tests)
+
+-- ---- lists
+
+flat_map-map : {A B C : Type 0} (h : B → List C) (f : A → B) (xs : List A) → flat_map h (map f xs) ≡ flat_map (λ x. h (f x)) xs
+flat_map-map h f [] = refl
+flat_map-map h f (x ∷ xs) = ap (λ ys. h (f x) ++ ys) (flat_map-map h f xs)
+
+flat_map-same : {A B : Type 0} (g h : A → List B) → ((x : A) → g x ≡ h x) → (xs : List A) → flat_map g xs ≡ flat_map h xs
+flat_map-same g h same [] = refl
+flat_map-same g h same (x ∷ xs) = ap (λ ys. ys ++ flat_map g xs) (same x) ∙ ap (λ ys. h x ++ ys) (flat_map-same g h same xs)
+
+map-flat_map : {A B C : Type 0} (f : B → C) (g : A → List B) (xs : List A) → map f (flat_map g xs) ≡ flat_map (λ x. map f (g x)) xs
+map-flat_map f g [] = refl
+map-flat_map f g (x ∷ xs) = map-append f (g x) (flat_map g xs) ∙ ap (λ ys. map f (g x) ++ ys) (map-flat_map f g xs)
+
+-- ---- entries
+
+module _ (t : Tables) (j : List Stamped) (stands : StandsFor t j) where
+  -- a waiting notice makes its entry
+  entry_in-mail_entry : (at : ℕ) (n : Notice) → IsOfMessage j n → entry_in t at (notice_kept n) ≡ Some (mail_entry j at n)
+  entry_in-mail_entry at n of =
+      ap (λ ms. option_map (entry_from t at (notice_kept n)) (numbered n.number.0 ms)) stands.messages
+      ∙ (ap (option_map (entry_from t at (notice_kept n))) (numbered-map message_kept n.number.0 (messages j) ∙ ap (option_map message_kept) of)
+      ∙ ap Some (rw (name_in-user_name t j stands n.user, name_in-user_name t j stands n.message.sender, channel_name_in-channel_name t j stands n.message.channel)))
+
+  -- the entries of a user's mail turn
+  pub entries_in-mail_entries : (at : ℕ) (u : UserId) → entries_in t at u ≡ mail_entries j at u
+  entries_in-mail_entries at u =
+      ap (λ ws. filter_map (entry_in t at) (filter (is_mail_to u) ws)) stands.waiting
+      ∙ (ap (filter_map (entry_in t at)) (filter-map (is_mail_to u) notice_kept (waiting j))
+      ∙ (filter_map-map (entry_in t at) notice_kept (filter (is_mail_of u) (waiting j))
+      ∙ (filter_map-given (IsOfMessage j) (λ n. entry_in t at (notice_kept n)) (mail_entry j at) (entry_in-mail_entry at) (filter (is_mail_of u) (waiting j)) (AllByRecursion-filter (IsOfMessage j) (is_mail_of u) (waiting j) (waiting-messages j))
+      ∙ ap (map (mail_entry j at)) (sym (by_message-batch_rows j u)))))
+
+  -- ---- a send
+
+  mentioned_in-mentions : (text : List ℕ) → mentioned_in t text ≡ (mentions text (user_names j) []).users
+  unfolding mentioned_in
+  mentioned_in-mentions text = ap (λ ns. (mentions text ns []).users) stands.names
+
+  is_bot_in-is_bot : (u : UserId) → is_bot_in t u ≡ is_bot j u
+  is_bot_in-is_bot u =
+      ap (λ bs. unwrap_or (numbered u.0 bs) false) stands.bots
+      ∙ (ap (λ o. unwrap_or o false) (numbered-map (λ (p : Person). p.bot) u.0 (people j)) ∙ unwrap_bot (numbered u.0 (people j)))
+    where
+      unwrap_bot : (o : Option Person) → unwrap_or (option_map (λ (p : Person). p.bot) o) false ≡ option_map_or (λ (p : Person). p.bot) o false
+      unwrap_bot None = refl
+      unwrap_bot (Some p) = refl
+
+  -- who is notified of a send
+  notifies-recipients : (sender : UserId) (channel : ChannelId) (text : List ℕ) (u : UserId) → notifies t sender channel (mentioned_in t text) u
+      ≡ (subscribed j u channel && not (u.0 == sender.0) && not (is_bot j u) && list_any (λ v. v.0 == u.0) (mentions text (user_names j) []).users)
+  notifies-recipients sender channel text u =
+      let among = λ (us : List UserId). list_any (λ v. v.0 == u.0) us in
+      ap (λ b. b && not (u.0 == sender.0) && not (is_bot_in t u) && among (mentioned_in t text)) (stands.subscribers u channel)
+      ∙ (ap (λ b. subscribed j u channel && not (u.0 == sender.0) && not b && among (mentioned_in t text)) (is_bot_in-is_bot u)
+      ∙ ap (λ us. subscribed j u channel && not (u.0 == sender.0) && not (is_bot j u) && among us) (mentioned_in-mentions text))
+
+  -- the trigger is a mention by either way
+  trigger-notifies : (sender : UserId) (channel : ChannelId) (topic text : List ℕ) (u : UserId) (w : Way) → trigger (record { past = j; sender = sender; channel = channel; topic = topic; text = text }) u w ≡ (if notifies t sender channel (mentioned_in t text) u then Some Mention else None)
+  unfolding trigger is_mentioned
+  trigger-notifies sender channel topic text u Mail =
+      ap (λ b. if subscribed j u channel && not (u.0 == sender.0) && not (is_bot j u) && b then Some Mention else None) (and-true (list_any (λ v. v.0 == u.0) (mentions text (user_names j) []).users))
+      ∙ ap (λ b. if b then Some Mention else None) (sym (notifies-recipients sender channel text u))
+  trigger-notifies sender channel topic text u Push =
+      ap (λ b. if subscribed j u channel && not (u.0 == sender.0) && not (is_bot j u) && b then Some Mention else None) (and-true (list_any (λ v. v.0 == u.0) (mentions text (user_names j) []).users))
+      ∙ ap (λ b. if b then Some Mention else None) (sym (notifies-recipients sender channel text u))
+
+  messages_long : length t.messages.items ≡ length (messages j)
+  messages_long = ap length stands.messages ∙ length-map (messages j) message_kept
+
+  -- what a send at a stamp owes a user
+  owed_to : (at : ℕ) (sender : UserId) (channel : ChannelId) (topic text : List ℕ) (u : UserId) →
+      let s : Stamped = record { at = at; event = Asked (Send sender channel topic text) } in
+      let m : SentMessage = record { past = j; sender = sender; channel = channel; topic = topic; text = text } in
+      map notice_kept (filter_map (notice_of (occurrence j s) m u) (Mail ∷ Push ∷ [])) ≡ (if notifies t sender channel (mentioned_in t text) u then next_notice t at u Mail ∷ next_notice t at u Push ∷ [] else [])
+  owed_to at sender channel topic text u =
+      let s : Stamped = record { at = at; event = Asked (Send sender channel topic text) } in
+      let m : SentMessage = record { past = j; sender = sender; channel = channel; topic = topic; text = text } in
+      let one = λ (w : Way) (o : Option Trigger). option_map (λ (tr : Trigger). let n : Notice = record {
+        user = u;
+        number = record { 0 = length (messages j) + 1 };
+        way = w;
+        message = m;
+        trigger = tr;
+        deal = record { 0 = deal_count j };
+        owing = occurrence j s;
+      } in n) o in
+      ap (λ o. map notice_kept (cons_option (one Mail o) (cons_option (one Push (trigger m u Push)) []))) (trigger-notifies sender channel topic text u Mail)
+      ∙ (ap (λ o. map notice_kept (cons_option (one Mail (if notifies t sender channel (mentioned_in t text) u then Some Mention else None)) (cons_option (one Push o) []))) (trigger-notifies sender channel topic text u Push)
+      ∙ (elim (notifies t sender channel (mentioned_in t text) u) as (λ b. map notice_kept (cons_option (one Mail (if b then Some Mention else None)) (cons_option (one Push (if b then Some Mention else None)) [])) ≡ (if b then next_notice t at u Mail ∷ next_notice t at u Push ∷ [] else [])) [
+        | true ↦ ap (λ n. both (n + 1) (deal_count j)) (sym messages_long) ∙ ap (both (length t.messages.items + 1)) (deal_count-messages j ∙ sym messages_long)
+        | false ↦ refl
+      ]))
+    where
+      both : ℕ → ℕ → List Waiting
+      both number deal =
+          record { user = u; message = record { 0 = number }; way = Mail; trigger = Mention; deal = record { 0 = deal }; ready = at }
+          ∷ record { user = u; message = record { 0 = number }; way = Push; trigger = Mention; deal = record { 0 = deal }; ready = at } ∷ []
+
+  -- what a send at a stamp owes
+  pub new_notices-owed : (at : ℕ) (sender : UserId) (channel : ChannelId) (topic text : List ℕ) →
+      let s : Stamped = record { at = at; event = Asked (Send sender channel topic text) } in
+      new_notices t at sender channel (mentioned_in t text) ≡ map notice_kept (owed_by (occurrence j s))
+  new_notices-owed at sender channel topic text =
+      let s : Stamped = record { at = at; event = Asked (Send sender channel topic text) } in
+      let m : SentMessage = record { past = j; sender = sender; channel = channel; topic = topic; text = text } in
+      let to = λ (u : UserId). if notifies t sender channel (mentioned_in t text) u then next_notice t at u Mail ∷ next_notice t at u Push ∷ [] else [] in
+      sym (flat_map-map to (λ (n : UserName). n.id) t.names.items)
+      ∙ (ap (flat_map to) (ap (map (λ (n : UserName). n.id)) stands.names ∙ ids-user_names j)
+      ∙ (sym (flat_map-same (λ u. map notice_kept (filter_map (notice_of (occurrence j s) m u) (Mail ∷ Push ∷ []))) to (owed_to at sender channel topic text) (users j))
+      ∙ sym (map-flat_map notice_kept (λ u. filter_map (notice_of (occurrence j s) m u) (Mail ∷ Push ∷ [])) (users j))))
+
+  -- ---- the changes of the rows
+
+  pub names_long : length t.names.items ≡ length (people j)
+  names_long = ap length stands.names ∙ long 1 (people j)
+    where
+      long : (n : ℕ) (ps : List Person) → length (named_from n ps) ≡ length ps
+      long n [] = refl
+      long n (p ∷ ps) = ap suc (long (n + 1) ps)
+
+  no_turns : (e : Event) → ((u : UserId) → is_mail_turn_of u e ≡ false) → filter (is_turn e) (waiting j) ≡ []
+  no_turns e never = filter_none (is_turn e) (λ n. never_turn n.user n.way) (waiting j)
+    where
+      never_turn : (u : UserId) (w : Way) → is_turn_of u w e ≡ false
+      never_turn u Mail = never u
+      never_turn u Push = refl
+
+  rows_of_notices : (ns : List Notice) → map (λ w. Put (notice_row w)) (map notice_kept ns) ≡ map (λ n. Put (waiting_row n)) ns
+  rows_of_notices [] = refl
+  rows_of_notices (n ∷ ns) = ap (λ cs. Put (waiting_row n) ∷ cs) (rows_of_notices ns)
+
+  keys_of_notices : (ns : List Notice) → map (λ w. Remove (key_of_notice w)) (map notice_kept ns) ≡ map (λ n. Remove (notice_key n)) ns
+  keys_of_notices [] = refl
+  keys_of_notices (n ∷ ns) = ap (λ cs. Remove (notice_key n) ∷ cs) (keys_of_notices ns)
+
+  pub turn_of_mail : (u v : UserId) (w : Way) → (v.0 == u.0 && same_way w Mail) ≡ is_turn_of v w (MailTurn u)
+  turn_of_mail u v Mail = and-true (v.0 == u.0) ∙ eqb-swap v.0 u.0
+  turn_of_mail u v Push = and-false (v.0 == u.0)
+
+  kept_mails : (u : UserId) → map (λ w. Remove (key_of_notice w)) (filter (is_mail_to u) t.waiting.items) ≡ map (λ n. Remove (notice_key n)) (filter (is_turn (MailTurn u)) (waiting j))
+  kept_mails u =
+      ap (λ ws. map (λ w. Remove (key_of_notice w)) (filter (is_mail_to u) ws)) stands.waiting
+      ∙ (ap (map (λ w. Remove (key_of_notice w))) (filter-map (is_mail_to u) notice_kept (waiting j))
+      ∙ (keys_of_notices (filter (is_mail_of u) (waiting j))
+      ∙ ap (map (λ n. Remove (notice_key n))) (filter_same (is_mail_of u) (is_turn (MailTurn u)) (λ n. turn_of_mail u n.user n.way) (waiting j))))
+
+  -- an event that is no turn and owes nothing changes no pending row
+  no_pending : (e : Event) → ((u : UserId) → is_mail_turn_of u e ≡ false) → (owed : List Notice) → ((map (λ n. Remove (notice_key n)) (filter (is_turn e) (waiting j)) ++ map (λ n. Put (waiting_row n)) owed) ++ []) ≡ map (λ n. Put (waiting_row n)) owed
+  no_pending e never owed = append-nil (map (λ n. Remove (notice_key n)) (filter (is_turn e) (waiting j)) ++ map (λ n. Put (waiting_row n)) owed) ∙ ap (λ ns. map (λ n. Remove (notice_key n)) ns ++ map (λ n. Put (waiting_row n)) owed) (no_turns e never)
+
+  pub changes_in-changes : (at : ℕ) (e : Event) → changes_in t at e ≡ changes j (record { at = at; event = e })
+  changes_in-changes at Restart = sym (no_pending Restart (λ u. refl) [])
+  changes_in-changes at (Asked (AddUser name bot)) =
+      ap (λ n. Put (row.User (record { 0 = n + 1 }) name bot default_settings) ∷ []) names_long
+      ∙ ap (λ cs. Put (row.User (record { 0 = length (people j) + 1 }) name bot default_settings) ∷ cs) (sym (no_pending (Asked (AddUser name bot)) (λ u. refl) []))
+  changes_in-changes at (Asked (AddChannel name)) = sym (no_pending (Asked (AddChannel name)) (λ u. refl) [])
+  changes_in-changes at (Asked (Subscribe user channel on)) = sym (no_pending (Asked (Subscribe user channel on)) (λ u. refl) [])
+  changes_in-changes at (Asked (Send sender channel topic text)) =
+      let s : Stamped = record { at = at; event = Asked (Send sender channel topic text) } in
+      ap (λ n. Put (row.Message (record { 0 = n + 1 }) sender text false) ∷ map (λ w. Put (notice_row w)) (new_notices t at sender channel (mentioned_in t text))) messages_long
+      ∙ ap (λ cs. Put (row.Message (record { 0 = length (messages j) + 1 }) sender text false) ∷ cs)
+      (ap (map (λ w. Put (notice_row w))) (new_notices-owed at sender channel topic text)
+      ∙ (rows_of_notices (owed_by (occurrence j s)) ∙ sym (no_pending (Asked (Send sender channel topic text)) (λ u. refl) (owed_by (occurrence j s)))))
+  changes_in-changes at (MailTurn user) =
+      let removes = map (λ n. Remove (notice_key n)) (filter (is_turn (MailTurn user)) (waiting j)) in
+      ap (λ cs. cs ++ map Put (outbox_rows_from (length t.outbox.items + 1) (entries_in t at user))) (kept_mails user ∙ sym (append-nil removes))
+      ∙ (ap (λ n. (removes ++ []) ++ map Put (outbox_rows_from (n + 1) (entries_in t at user))) (ap length stands.outbox)
+      ∙ ap (λ es. (removes ++ []) ++ map Put (outbox_rows_from (length (outbox j) + 1) es)) (entries_in-mail_entries at user))
+
+  -- ---- answers
+
+  channels_long : length t.channels.items ≡ length (channels j)
+  channels_long = sym (length-map t.channels.items (λ (c : Channel). c.name)) ∙ ap length stands.channels
+
+  pub answer_in-answer_of : (r : Request) → answer_in t r ≡ answer_of j r
+  answer_in-answer_of (AddUser name bot) = ap (λ n. answer.User (record { 0 = n + 1 })) names_long
+  answer_in-answer_of (AddChannel name) = ap (λ n. answer.Channel (record { 0 = n + 1 })) channels_long
+  answer_in-answer_of (Subscribe user channel on) = refl
+  answer_in-answer_of (Send sender channel topic text) =
+      ap (λ n. answer.Sent (record { 0 = n + 1 }) (record { 0 = n })) messages_long
+      ∙ ap (λ d. answer.Sent (record { 0 = length (messages j) + 1 }) (record { 0 = d })) (sym (deal_count-messages j))
+
+  -- how many mail notices of a user wait
+  pub mails-batch_rows : (u : UserId) → length (filter (is_mail_to u) t.waiting.items) ≡ length (batch_rows j u)
+  mails-batch_rows u =
+      ap (λ ws. length (filter (is_mail_to u) ws)) stands.waiting
+      ∙ (ap length (filter-map (is_mail_to u) notice_kept (waiting j))
+      ∙ (length-map (filter (is_mail_of u) (waiting j)) notice_kept ∙ ap length (sym (batch_rows-waiting j u))))
+
+-- each batch row is an entry
+pub mail_entries-long : (j : List Stamped) (at : ℕ) (u : UserId) → length (mail_entries j at u) ≡ length (batch_rows j u)
+mail_entries-long j at u =
+    ap (λ ns. length (map (mail_entry j at) ns)) (by_message-batch_rows j u ∙ sym (batch_rows-waiting j u)) ∙ length-map (batch_rows j u) (mail_entry j at)
+
+-- a mail turn makes as many entries as there are batch rows
+pub outbox-mails : (j : List Stamped) (at : ℕ) (u : UserId) → length (outbox (j ++ record { at = at; event = MailTurn u } ∷ [])) ≡ length (outbox j) + length (batch_rows j u)
+outbox-mails j at u =
+    ap length (outbox-append j (record { at = at; event = MailTurn u }))
+    ∙ (length-append (outbox j) (mail_entries j at u) ∙ ap (λ n. length (outbox j) + n) (mail_entries-long j at u))

@@ -1,0 +1,9 @@
+pub mod RowsAfter
+pub mod Steps
+pub mod TableSteps
+pub mod Numbered
+pub mod Standing
+pub mod Following
+pub mod Subscribed
+pub mod After
+pub mod Offices

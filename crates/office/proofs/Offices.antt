@@ -1,0 +1,73 @@
+-- What keeps an office one: the same contents, and a lawful event that was kept and followed.
+use Rattle.std.proofs.Common.{◌≡◌, Bool, true, false, ◌&&◌, List, [], ◌∷◌, ◌++◌, Option, Some, None, sym, ap, ◌∙◌}
+use Rattle.std.specs.Prelude.{IfSome, option_map, nat_le}
+use Rattle.chat_model.specs.declared.event.Stamped.{Stamped}
+use Rattle.chat_model.specs.declared.row.RowChange.{RowChange}
+use Rattle.chat_model.specs.Rows.{changed_all}
+use Rattle.keeper.specs.declared.keeper.Kept.{Kept}
+use Rattle.keeper.specs.Kept.{committed}
+use Rattle.notice_ledger.specs.Journal.{last_stamp}
+use Rattle.notice_ledger.specs.Rows.{rows}
+use Rattle.notice_ledger.specs.Lawful.{is_lawful_after, may_stand}
+use Rattle.notice_ledger.proofs.LawfulLemmas.{IsLawful-nil, IsLawful-append}
+use Rattle.office.specs.declared.tables.Tables.{Tables}
+use Rattle.office.specs.declared.prepared.Effect.{Effect}
+use Rattle.office.specs.declared.prepared.Effect.TheVariants as effect
+use Rattle.office.specs.Tables.{StandsFor}
+use Rattle.office.specs.Prepared.{changes_in, Fits}
+use Rattle.office.specs.Applied.{IsApplied, names_after, bots_after, rooms_after, messages_after, waiting_after, outbox_after}
+use Rattle.office.specs.Office.{IsOffice, KeptStandsFor}
+use Rattle.office.proofs.RowsAfter.{rows-nil, rows-append}
+use Rattle.office.proofs.Following.{changes_in-changes}
+use Rattle.office.proofs.After.{same_stands, stands_after}
+
+pub same_office : (old new : Tables) (j : List Stamped) (told : Option Kept) → IsOffice told j old → IsApplied old new effect.Nothing → IsOffice told j new
+same_office old new j told office same = record {
+  lawful = office.lawful;
+  tables = same_stands old new j office.tables same;
+  kept = office.kept;
+}
+
+-- room that was made first changes nothing of an effect
+through : (old mid new : Tables) (e : Effect) → IsApplied old mid effect.Nothing → IsApplied mid new e → IsApplied old new e
+through old mid new e reserved applied = record {
+  names = applied.names ∙ ap (names_after e) reserved.names;
+  bots = applied.bots ∙ ap (bots_after e) reserved.bots;
+  rooms = applied.rooms ∙ ap (rooms_after e) reserved.rooms;
+  messages = applied.messages ∙ ap (messages_after e) reserved.messages;
+  waiting = applied.waiting ∙ ap (waiting_after e) reserved.waiting;
+  outbox = applied.outbox ∙ ap (outbox_after e) reserved.outbox;
+}
+
+second : (a b : Bool) → (a && b) ≡ true → b ≡ true
+second true b h = h
+second false b h = absurd (cc)
+
+-- what is kept stands for the journal with the event, once the event's changes are kept
+kept_after : (told : Option Kept) (j : List Stamped) (s : Stamped) (t : Tables) (cs : List RowChange) → StandsFor t j → cs ≡ changes_in t s.at s.event → IfSome told (KeptStandsFor j) → IfSome (option_map (committed s cs) told) (KeptStandsFor (j ++ s ∷ []))
+kept_after None j s t cs stands are kept = tt
+kept_after (Some k) j s t cs stands are kept = (
+  ap (λ x. x ++ s ∷ []) kept.0,
+  ap (changed_all cs) kept.1 ∙ (ap (λ x. changed_all x (rows j)) (are ∙ changes_in-changes t j stands s.at s.event) ∙ sym (rows-append j s)),
+)
+
+-- a lawful event that was prepared, kept and made
+pub office_after : (old mid new : Tables) (j : List Stamped) (s : Stamped) (told : Option Kept) (cs : List RowChange) (e : Effect) → is_lawful_after j s ≡ true → IsOffice told j old
+    → cs ≡ changes_in old s.at s.event → Fits old s.at s.event e → IsApplied old mid effect.Nothing → IsApplied mid new e → IsOffice (option_map (committed s cs) told) (j ++ s ∷ []) new
+office_after old mid new j s told cs e next office are fits reserved applied = record {
+  lawful = IsLawful-append j s office.lawful next;
+  tables = stands_after old new j office.tables s.at s.event e (second (nat_le (last_stamp j) s.at) (may_stand j s.at s.event) next) fits (through old mid new e reserved applied);
+  kept = kept_after told j s old cs office.tables are office.kept;
+}
+
+empty_kept : (told : Option Kept) (loaded : Kept) → IfSome told (λ k. loaded ≡ k) → loaded.journal ≡ [] → loaded.rows ≡ [] → IfSome told (KeptStandsFor [])
+empty_kept None loaded same journal rows = tt
+empty_kept (Some k) loaded same no_event no_row = (ap (λ (x : Kept). x.journal) (sym same) ∙ no_event, ap (λ (x : Kept). x.rows) (sym same) ∙ (no_row ∙ sym rows-nil))
+
+-- an office before its first event, over what was loaded empty
+pub empty_office : (told : Option Kept) (loaded : Kept) (t : Tables) → StandsFor t [] → IfSome told (λ k. loaded ≡ k) → loaded.journal ≡ [] → loaded.rows ≡ [] → IsOffice told [] t
+empty_office told loaded t stands same no_event no_row = record {
+  lawful = IsLawful-nil;
+  tables = stands;
+  kept = empty_kept told loaded same no_event no_row;
+}

@@ -1,0 +1,38 @@
+use Rattle.std.proofs.Common.{◌≡◌, ℕ, ◌+◌, ◌-◌, ◌≤◌, List, [], ◌∷◌, ◌++◌, length, sym, ap, ◌∙◌, refl, subst, arith}
+use Rattle.chat_model.specs.declared.event.Stamped.{Stamped}
+use Rattle.chat_model.specs.declared.event.Event.TheVariants.{MailTurn}
+use Rattle.notice_ledger.specs.Journal.{stamp}
+use Rattle.notice_ledger.specs.Due.{batch_rows}
+use Rattle.notice_ledger.specs.Outbox.{outbox}
+use Rattle.office.specs.Tables.{found_due}
+use Rattle.office.proofs.Following.{mail_entries-long, outbox-mails}
+use Rattle.office.proofs.office.Office.mail_turn.Goals as goal
+use Rattle.office.proofs.office.Office.mail_turn.Goals.{After-entries}
+use Rattle.office.proofs.office.Office.mail_turn.Given.{Over}
+
+-- the outbox grew by the batch rows
+grown : (g : Over) (c : After-entries g) → c.entries.result ≡ c.entries-before.result + c.batch_rows-rows.result
+grown g c =
+    c.entries.ensures
+    ∙ (ap (λ (j : List Stamped). length (outbox j)) c.in_ok-record.ensures.ok
+    ∙ (outbox-mails c.args.self.now.journal c.stamp-at.result c.in-Some.first.user
+    ∙ (ap (λ n. n + length (batch_rows c.args.self.now.journal c.in-Some.first.user)) (sym c.entries-before.ensures) ∙ ap (λ n. c.entries-before.result + n) (sym c.batch_rows-rows.ensures))))
+
+pub overflow_sub-entries : goal.overflow_sub-entries
+overflow_sub-entries g c = omega (arith, grown g c)
+
+pub overflow_sub-result : goal.overflow_sub-result
+overflow_sub-result g c = omega (arith, grown g c)
+
+pub returns-clause-answered : goal.returns-clause-answered
+returns-clause-answered g c =
+    let j = c.args.self.now.journal in let u = c.in-Some.first.user in
+    let made : c.entries.result - c.entries-before.result ≡ c.batch_rows-rows.result = omega (arith, grown g c) in
+    let all : (c.entries.result - c.entries-before.result) + (c.batch_rows-rows.result - (c.entries.result - c.entries-before.result)) ≡ c.batch_rows-rows.result = omega (arith, grown g c) in (
+      found_due c.in-Some.first,
+      record { first = sym c.in-Some.ensures; by_now = subst (λ n. c.in-Some.first.due ≤ n) (c.seconds.ensures.value ∙ c.stamp-at.ensures) c.if-seconds-first.false },
+      refl,
+      c.in_ok-record.ensures.ok ∙ ap (λ (n : ℕ). j ++ record { at = n; event = MailTurn u } ∷ []) c.stamp-at.ensures,
+      made ∙ (c.batch_rows-rows.ensures ∙ sym (mail_entries-long j (stamp j c.args.now) u)),
+      all ∙ c.batch_rows-rows.ensures,
+    )

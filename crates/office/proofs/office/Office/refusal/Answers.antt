@@ -1,0 +1,11 @@
+use Rattle.std.proofs.Common.{ap, ◌∙◌}
+use Rattle.notice_ledger.specs.Lawful.{refusal}
+use Rattle.office.specs.Office.{OfficeSeen}
+use Rattle.office.proofs.Standing.{refusal_in-refusal}
+use Rattle.office.proofs.office.Office.refusal.Goals as goal
+
+pub returns : goal.returns
+returns g c =
+    c.refusal.ensures
+    ∙ (refusal_in-refusal c.self.inside.tables c.self.inside.journal.items c.self.invariant.tables c.args.request.now
+    ∙ ap (λ (o : OfficeSeen g.row.K.Denot). refusal o.journal c.args.request.now) c.self.view_is)

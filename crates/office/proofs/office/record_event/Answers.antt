@@ -1,0 +1,31 @@
+use Rattle.std.proofs.Common.{List, [], ◌∷◌, ◌++◌, Option, sym, ap, ◌∙◌, subst}
+use Rattle.std.specs.Prelude.{option_map}
+use Rattle.chat_model.specs.declared.event.Stamped.{Stamped}
+use Rattle.keeper.specs.declared.keeper.Kept.{Kept}
+use Rattle.chat_model.specs.declared.row.RowChange.{RowChange}
+use Rattle.keeper.specs.Kept.{committed}
+use Rattle.office.specs.Office.{IsOffice}
+use Rattle.office.proofs.Offices.{same_office, office_after}
+use Rattle.office.proofs.office.record_event.Goals as goal
+
+pub returns-in_err-reserve-clause-office : goal.returns-in_err-reserve-clause-office
+returns-in_err-reserve-clause-office g c = same_office c.args.tables.now c.reserve.new.self c.args.journal.now.items (g.K.Keeper.kept c.args.keeper.now) c.requires.office c.reserve.ensures.same
+
+pub returns-in_err-reserve-2-clause-office : goal.returns-in_err-reserve-2-clause-office
+returns-in_err-reserve-2-clause-office g c =
+    subst (λ (j : List Stamped). IsOffice (g.K.Keeper.kept c.args.keeper.now) j c.reserve.new.self) (sym c.reserve-2.ensures.items)
+    (same_office c.args.tables.now c.reserve.new.self c.args.journal.now.items (g.K.Keeper.kept c.args.keeper.now) c.requires.office c.reserve.ensures.same)
+
+pub returns-in_err-commit-clause-office : goal.returns-in_err-commit-clause-office
+returns-in_err-commit-clause-office g c =
+    subst (λ (j : List Stamped). IsOffice (g.K.Keeper.kept c.commit.new.self) j c.reserve.new.self) (sym c.reserve-2.ensures.items)
+    (subst (λ (k : Option Kept). IsOffice k c.args.journal.now.items c.reserve.new.self) (sym c.in_err-commit.ensures.err)
+    (same_office c.args.tables.now c.reserve.new.self c.args.journal.now.items (g.K.Keeper.kept c.args.keeper.now) c.requires.office c.reserve.ensures.same))
+
+pub returns-clause-office : goal.returns-clause-office
+returns-clause-office g c =
+    let told = g.K.Keeper.kept c.args.keeper.now in let s = c.args.stamped in
+    let cs = c.in_ok-prepared.prepared.changes.items in let j = c.args.journal.now.items in
+    subst (λ (x : List Stamped). IsOffice (g.K.Keeper.kept c.commit.new.self) x c.apply.new.self) (sym (c.push_reserved.ensures.items ∙ ap (λ x. x ++ s ∷ []) c.reserve-2.ensures.items))
+    (subst (λ (k : Option Kept). IsOffice k (j ++ s ∷ []) c.apply.new.self) (sym (c.in_ok-commit.ensures.ok ∙ ap (λ (x : List RowChange). option_map (committed s x) told) c.deref.ensures.value))
+    (office_after c.args.tables.now c.reserve.new.self c.apply.new.self j s told cs c.in_ok-prepared.prepared.effect c.requires.lawful c.requires.office c.in_ok-prepared.ensures.changes c.in_ok-prepared.ensures.effect c.reserve.ensures.same c.apply.ensures))

@@ -1,0 +1,10 @@
+use Rattle.std.proofs.Common.{◌≡◌, take}
+use Rattle.std.specs.Prelude.{option_map}
+use Rattle.std.specs.List.{reduce, filter_map}
+use Rattle.notice_ledger.specs.Due.{sooner}
+use Rattle.office.specs.Tables.{found_due, due_user_in}
+use Rattle.office.proofs.tables.Tables.first_due.Given as goal
+
+abbrev pub invariant-loop-name : goal.invariant-loop-name
+invariant-loop-name l =
+    option_map found_due l.first ≡ reduce sooner (filter_map (due_user_in l.self) (take l.name-index l.name-items))

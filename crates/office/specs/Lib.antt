@@ -1,0 +1,6 @@
+pub mod Changes
+pub mod Tables
+pub mod Prepared
+pub mod Applied
+pub mod Office
+pub mod Faults

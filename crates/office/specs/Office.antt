@@ -1,0 +1,60 @@
+-- What an office is seen as, and what its calls answer.
+use Rattle.std.specs.Prelude.{◌≡◌, ℕ, ◌+◌, ◌<◌, ◌≤◌, List, [], ◌∷◌, ◌++◌, Option, Some, IfSome, option_map, length}
+use Rattle.chat_model.specs.declared.event.Stamped.{Stamped}
+use Rattle.chat_model.specs.declared.event.Event.TheVariants.{MailTurn}
+use Rattle.chat_model.specs.declared.request.Request.{Request}
+use Rattle.chat_model.specs.declared.request.Request.TheVariants.{AddUser, AddChannel, Subscribe, Send}
+use Rattle.chat_model.specs.declared.request.Answer.{Answer}
+use Rattle.chat_model.specs.declared.request.Answer.TheVariants as answer
+use Rattle.keeper.specs.declared.keeper.Kept.{Kept}
+use Rattle.notice_ledger.specs.Values.{people, channels, messages, deal_count}
+use Rattle.notice_ledger.specs.Due.{DueUser, batch_rows, first_due}
+use Rattle.notice_ledger.specs.Outbox.{mail_entries}
+use Rattle.notice_ledger.specs.Rows.{rows}
+use Rattle.notice_ledger.specs.Lawful.{IsLawful}
+use Rattle.office.specs.declared.answer.MailAnswer.{MailAnswer}
+use Rattle.office.specs.declared.answer.MailAnswer.TheVariants.{Mailed, NotDue}
+use Rattle.office.specs.declared.tables.Tables.{Tables}
+use Rattle.office.specs.Tables.{StandsFor}
+
+-- an office is seen as its journal and its keeper
+pub record OfficeSeen (K : Type 0) : Type 0 where
+  pub journal : List Stamped
+  pub keeper : K
+
+-- what is kept stands for the journal: it is the journal, and its rows are the journal's
+abbrev pub KeptStandsFor : List Stamped → Kept → Type 0
+KeptStandsFor j kept = (kept.journal ≡ j) × (kept.rows ≡ rows j)
+
+-- the journal is lawful, and the tables and what is kept, where that is told, stand for it
+pub record IsOffice (told : Option Kept) (j : List Stamped) (t : Tables) : Type 0 where
+  pub lawful : IsLawful j
+  pub tables : StandsFor t j
+  pub kept : IfSome told (KeptStandsFor j)
+
+-- the answer to a request that is not refused
+abbrev pub answer_of : List Stamped → Request → Answer
+answer_of j (AddUser name bot) = answer.User (record { 0 = length (people j) + 1 })
+answer_of j (AddChannel name) = answer.Channel (record { 0 = length (channels j) + 1 })
+answer_of j (Subscribe user channel on) = answer.Done
+answer_of j (Send sender channel topic text) = answer.Sent (record { 0 = length (messages j) + 1 }) (record { 0 = deal_count j })
+
+-- no due moment is at most the stamp
+abbrev pub NoneIsDue : List Stamped → ℕ → Type 0
+NoneIsDue j at = IfSome (first_due j) (λ d. at < d.due)
+
+-- the least due moment
+abbrev pub least_due : List Stamped → Option ℕ
+least_due j = option_map (λ d. d.due) (first_due j)
+
+-- the user has the least due moment, and it is at most the stamp
+pub record IsDue (j : List Stamped) (at : ℕ) (d : DueUser) : Type 0 where
+  pub first : first_due j ≡ Some d
+  pub by_now : d.due ≤ at
+
+-- what a mail turn answers, and the journal after it
+abbrev pub IsMailTurn : List Stamped → ℕ → MailAnswer → List Stamped → Type 0
+IsMailTurn j at (NotDue least) after = NoneIsDue j at × (least ≡ least_due j) × (after ≡ j)
+IsMailTurn j at (Mailed user entries dropped) after =
+    (d : DueUser) × IsDue j at d × (d.user ≡ user) × (after ≡ j ++ record { at = at; event = MailTurn user } ∷ [])
+    × (entries ≡ length (mail_entries j at user)) × (entries + dropped ≡ length (batch_rows j user))

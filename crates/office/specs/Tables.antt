@@ -1,0 +1,124 @@
+-- What the tables hold, how a look-up reads them, and when they stand for a journal.
+use Rattle.std.specs.Prelude.{◌≡◌, ℕ, ◌+◌, Bool, false, ◌&&◌, ◌==◌, not, List, [], ◌∷◌, Option, Some, None, option_map, is_some, length, map, filter, find, if◌then◌else◌}
+use Rattle.std.specs.Option.{option_map_or}
+use Rattle.std.specs.List.{list_any, filter_map, reduce}
+use Rattle.chat_model.specs.declared.event.Stamped.{Stamped}
+use Rattle.chat_model.specs.declared.entry.Entry.{Entry}
+use Rattle.chat_model.specs.declared.entry.Entry.TheVariants as entry
+use Rattle.chat_model.specs.declared.entry.Conversation.TheVariants as conversation
+use Rattle.chat_model.specs.declared.ids.UserId.{UserId}
+use Rattle.chat_model.specs.declared.ids.ChannelId.{ChannelId}
+use Rattle.chat_model.specs.declared.mentions.UserName.{UserName}
+use Rattle.chat_model.specs.declared.request.Request.{Request}
+use Rattle.chat_model.specs.declared.request.Request.TheVariants as request
+use Rattle.chat_model.specs.declared.request.Answer.{Answer}
+use Rattle.chat_model.specs.declared.request.Answer.TheVariants as answer
+use Rattle.chat_model.specs.declared.request.Refusal.{Refusal}
+use Rattle.chat_model.specs.declared.request.Refusal.TheVariants.{NoUser, NoChannel, NotSubscribed}
+use Rattle.chat_model.specs.declared.trigger.Way.TheVariants as ways
+use Rattle.notice_ledger.specs.Values.{numbered, SentMessage, people, user_names, channels, messages, subscribed}
+use Rattle.notice_ledger.specs.Owed.{Notice, waiting, same_way}
+use Rattle.notice_ledger.specs.Due.{DueUser, sooner}
+use Rattle.notice_ledger.specs.Outbox.{outbox}
+use Rattle.office.specs.declared.tables.Channel.{Channel}
+use Rattle.office.specs.declared.tables.Message.{Message}
+use Rattle.office.specs.declared.tables.Waiting.{Waiting}
+use Rattle.office.specs.declared.tables.DueUser.{DueUser as FoundDue}
+use Rattle.office.specs.declared.tables.Tables.{Tables}
+
+-- a message as the tables keep it
+abbrev pub message_kept : SentMessage → Message
+message_kept m = record { sender = m.sender; channel = m.channel; topic = m.topic; text = m.text }
+
+-- a notice as the tables keep it
+abbrev pub notice_kept : Notice → Waiting
+notice_kept n = record { user = n.user; message = n.number; way = n.way; trigger = n.trigger; deal = n.deal; ready = n.owing.at }
+
+-- the user is among the subscribers of the channel
+abbrev pub is_subscriber : List Channel → UserId → ChannelId → Bool
+is_subscriber cs u c = option_map_or (λ ch. list_any (λ v. v.0 == u.0) ch.subscribers.items) (numbered c.0 cs) false
+
+-- the tables stand for the journal
+pub record StandsFor (t : Tables) (j : List Stamped) : Type 0 where
+  pub names : t.names.items ≡ user_names j
+  pub bots : t.bots.items ≡ map (λ p. p.bot) (people j)
+  pub channels : map (λ c. c.name) t.channels.items ≡ channels j
+  pub subscribers : (u : UserId) (c : ChannelId) → is_subscriber t.channels.items u c ≡ subscribed j u c
+  pub messages : t.messages.items ≡ map message_kept (messages j)
+  pub waiting : t.waiting.items ≡ map notice_kept (waiting j)
+  pub outbox : t.outbox.items ≡ outbox j
+
+-- ---- what the look-ups read
+
+-- the tables have the user
+abbrev pub has_user : Tables → UserId → Bool
+has_user t u = is_some (numbered u.0 t.names.items)
+
+-- the tables have the channel
+abbrev pub has_channel : Tables → ChannelId → Bool
+has_channel t c = is_some (numbered c.0 t.channels.items)
+
+-- the refusal that the tables give
+abbrev pub refusal_in : Tables → Request → Option Refusal
+refusal_in t (request.AddUser name bot) = None
+refusal_in t (request.AddChannel name) = None
+refusal_in t (request.Subscribe user channel on) =
+    if not (has_user t user) then Some NoUser else if not (has_channel t channel) then Some NoChannel else None
+refusal_in t (request.Send sender channel topic text) =
+    if not (has_user t sender) then Some NoUser else if not (has_channel t channel) then Some NoChannel
+    else if not (is_subscriber t.channels.items sender channel) then Some NotSubscribed else None
+
+-- a mail notice of the user
+abbrev pub is_mail_to : UserId → Waiting → Bool
+is_mail_to u w = w.user.0 == u.0 && same_way w.way ways.Mail
+
+-- the due moment that the tables give
+abbrev pub due_in : Tables → UserId → Option ℕ
+due_in t u = option_map (λ w. w.ready + 120) (find (is_mail_to u) t.waiting.items)
+
+-- a user with the due moment that the tables give
+abbrev pub due_user_in : Tables → UserName → Option DueUser
+due_user_in t name = option_map (λ d. record { due = d; user = name.id }) (due_in t name.id)
+
+-- the user with the least due moment of the tables
+abbrev pub first_due_in : Tables → Option DueUser
+first_due_in t = reduce sooner (filter_map (due_user_in t) t.names.items)
+
+-- what the search for it found
+abbrev pub found_due : FoundDue → DueUser
+found_due d = record { due = d.due; user = d.user }
+
+-- a user's name in the tables, empty where it is not there
+abbrev pub name_in : Tables → UserId → List ℕ
+name_in t u = option_map_or (λ n. n.name) (numbered u.0 t.names.items) []
+
+-- a channel's name in the tables, empty where it is not there
+abbrev pub channel_name_in : Tables → ChannelId → List ℕ
+channel_name_in t c = option_map_or (λ ch. ch.name) (numbered c.0 t.channels.items) []
+
+-- the entry of a notice, whose message is there
+abbrev pub entry_from : Tables → ℕ → Waiting → Message → Entry
+entry_from t at w m =
+    entry.Mail w.user (name_in t w.user) at (conversation.Channel m.channel (channel_name_in t m.channel) m.topic) (record {
+      message = w.message;
+      sender = m.sender;
+      sender_name = name_in t m.sender;
+      trigger = w.trigger;
+      via = None;
+      text = m.text;
+    } ∷ [])
+
+-- the entry of a notice, where its message is there
+abbrev pub entry_in : Tables → ℕ → Waiting → Option Entry
+entry_in t at w = option_map (entry_from t at w) (numbered w.message.0 t.messages.items)
+
+-- the entries of a user's mail turn
+abbrev pub entries_in : Tables → ℕ → UserId → List Entry
+entries_in t at u = filter_map (entry_in t at) (filter (is_mail_to u) t.waiting.items)
+
+-- the answer to a request that is not refused
+abbrev pub answer_in : Tables → Request → Answer
+answer_in t (request.AddUser name bot) = answer.User (record { 0 = length t.names.items + 1 })
+answer_in t (request.AddChannel name) = answer.Channel (record { 0 = length t.channels.items + 1 })
+answer_in t (request.Subscribe user channel on) = answer.Done
+answer_in t (request.Send sender channel topic text) = answer.Sent (record { 0 = length t.messages.items + 1 }) (record { 0 = length t.messages.items })

@@ -1,0 +1,227 @@
+//! The office: it adds lawful events to the journal, keeps them, and follows them with its tables.
+ghost use Rattle.std.specs.Prelude.{◌≡◌, ℕ, ◌+◌, ◌≤◌, ◌<◌, ◌↔◌, [], ◌∷◌, ◌++◌, length, true, max, IfOk, IfErr, IfSome, OnOk, OnErr, Some, None, List, option_map};
+ghost use Rattle.chat_model.specs.Counts.{HasRisen};
+ghost use Rattle.chat_model.specs.declared.event.Event.TheVariants.{Restart, Asked};
+ghost use Rattle.chat_model.specs.declared.request.Refusal.{Refusal};
+ghost use Rattle.notice_ledger.specs.Journal.{stamp, last_stamp};
+ghost use Rattle.notice_ledger.specs.Lawful.{IsLawful, refusal, is_lawful_after};
+ghost use Rattle.office.specs.Office.{IsOffice, KeptStandsFor};
+
+use crate::tables::{DueUser, Tables};
+use crate::{AskFault, MailAnswer, StartFault, StepFault};
+use chat_model::{Answer, Event, Moment, Refusal, Request, Stamped, UserId};
+use keeper::Keeper;
+use std::alloc::Global;
+use std::marker::Model;
+
+/// A journal of lawful events, the tables that follow from it, and the keeper that keeps both.
+#[derive(Drop)]
+pub struct Office<K: Keeper> {
+    keeper: K,
+    journal: Vec<Stamped>,
+    tables: Tables,
+}
+
+impl<K: Keeper> Model for Office<K> {
+    ghost use Rattle.office.specs.Office.{OfficeSeen, IsOffice};
+
+    ghost Value = { OfficeSeen K };
+
+    ghost view = { λ o. record { journal = o.journal.items; keeper = o.keeper } };
+
+    ghost invariant = { λ o. IsOffice (K.kept o.keeper) o.journal.items o.tables };
+}
+
+/// Keeps an event and follows it. A fault or want of memory changes nothing.
+fn record_event<K: Keeper>(
+    keeper: &mut K,
+    journal: &mut Vec<Stamped>,
+    tables: &mut Tables,
+    stamped: Stamped,
+) -> Result<(), StepFault>
+    requires lawful { is_lawful_after journal.old.items stamped ≡ true }
+    requires office { IsOffice (K.kept keeper.old) journal.old.items tables.old }
+
+    ensures office { IsOffice (K.kept keeper.new) journal.new.items tables.new }
+    ensures ok { OnOk result (journal.new.items ≡ journal.old.items ++ stamped ∷ []) }
+    ensures err { OnErr result (journal.new.items ≡ journal.old.items) }
+    ensures kept { OnErr result (K.kept keeper.new ≡ K.kept keeper.old) }
+    ensures fault { IfErr result (λ e. e ≡ StepFault.KeeperFault → HasRisen (K.faults keeper.old) (K.faults keeper.new)) }
+    ensures counted { K.faults keeper.old ≤ K.faults keeper.new }
+{
+    let prepared = tables.prepare(&stamped)?;
+    tables.reserve(&prepared.effect)?;
+    journal.reserve(1)?;
+    keeper.commit(&stamped, &prepared.changes)?;
+    tables.apply(prepared.effect);
+    journal.push_reserved(stamped);
+    Ok(())
+}
+
+impl<K: Keeper> Office<K> {
+    ghost use Rattle.office.specs.Office.{answer_of, NoneIsDue, least_due, IsMailTurn};
+    ghost use Rattle.office.specs.Tables.{found_due};
+    ghost use Rattle.notice_ledger.specs.Due.{first_due, batch_rows};
+    ghost use Rattle.notice_ledger.specs.Outbox.{outbox};
+
+    /// Loads what is kept, which has to be empty, and keeps the first event, a restart. Each fault hands the keeper
+    /// back.
+    pub fn start(alloc: Global, keeper: K, now: Moment) -> Result<Office<K>, (StartFault, K)>
+        ensures ok { IfOk result (λ o. o.journal ≡ record { at = now; event = Restart } ∷ []) }
+        ensures was_empty { IfOk result (λ o. IfSome (K.kept keeper) (λ kept. (kept.journal ≡ []) × (kept.rows ≡ []))) }
+        ensures err { IfErr result (λ e. K.kept e.1 ≡ K.kept keeper) }
+        ensures fault { IfErr result (λ e. e.0 ≡ StartFault.KeeperFault → HasRisen (K.faults keeper) (K.faults e.1)) }
+        ensures not_empty { IfErr result (λ e. e.0 ≡ StartFault.NotEmpty → IfSome (K.kept keeper) (λ kept. 0 < length kept.journal + length kept.rows)) }
+        ensures counted_ok { IfOk result (λ o. K.faults keeper ≤ K.faults o.keeper) }
+        ensures counted_err { IfErr result (λ e. K.faults keeper ≤ K.faults e.1) }
+    {
+        let mut keeper = keeper;
+        let kept = match keeper.load() {
+            Ok(kept) => kept,
+            Err(fault) => return Err((StartFault::from(StepFault::from(fault)), keeper)),
+        };
+        if !kept.journal.is_empty() || !kept.rows.is_empty() {
+            return Err((StartFault::NotEmpty, keeper));
+        }
+        let mut tables = Tables::new(alloc);
+        let mut journal = Vec::new(alloc);
+        let first = Stamped {
+            at: now,
+            event: Event::Restart,
+        };
+        match record_event(&mut keeper, &mut journal, &mut tables, first) {
+            Ok(()) => Ok(Office {
+                keeper,
+                journal,
+                tables,
+            }),
+            Err(fault) => Err((StartFault::from(fault), keeper)),
+        }
+    }
+
+    /// Ends the office and gives the keeper back.
+    pub fn close(self) -> K
+        ensures keeper { result ≡ self.keeper }
+        ensures lawful { IsLawful self.journal }
+        ensures kept { IfSome (K.kept result) (KeptStandsFor self.journal) }
+    {
+        self.keeper
+    }
+
+    /// Lends the journal, the oldest event first.
+    pub fn journal(&self) -> &[Stamped]
+        ensures { result.now ≡ self.now.journal }
+    {
+        &self.journal
+    }
+
+    /// The stamp of what is asked at a moment: the greater of the moment and the last stamp.
+    fn stamp(&self, now: Moment) -> Moment
+        ensures { result ≡ stamp self.now.journal now }
+    {
+        match self.journal.last() {
+            Some(last) if now < last.at => last.at,
+            _ => now,
+        }
+    }
+
+    /// Why the request is refused.
+    fn refusal(&self, request: &Request) -> Option<Refusal>
+        ensures { result ≡ refusal self.now.journal request.now }
+    {
+        self.tables.refusal(request)
+    }
+
+    /// The answer to a request that is not refused.
+    fn answer(&self, request: &Request) -> Answer
+        ensures { result ≡ answer_of self.now.journal request.now }
+    {
+        self.tables.answer(request)
+    }
+
+    /// The user with the least due moment.
+    fn first_due(&self) -> Option<DueUser>
+        ensures { option_map found_due result ≡ first_due self.now.journal }
+    {
+        self.tables.first_due()
+    }
+
+    /// How many batch rows the user has.
+    fn batch_rows(&self, user: UserId) -> usize
+        ensures { result ≡ length (batch_rows self.now.journal user) }
+    {
+        self.tables.mails(user)
+    }
+
+    /// How many entries the outbox has.
+    fn entries(&self) -> usize
+        ensures { result ≡ length (outbox self.now.journal) }
+    {
+        self.tables.outbox.len()
+    }
+
+    /// Keeps a lawful event and follows it.
+    fn record(&mut self, stamped: Stamped) -> Result<(), StepFault>
+        requires lawful { is_lawful_after self.old.journal stamped ≡ true }
+        ensures ok { OnOk result (self.new.journal ≡ self.old.journal ++ stamped ∷ []) }
+        ensures err { OnErr result (self.new.journal ≡ self.old.journal) }
+        ensures kept { OnErr result (K.kept self.new.keeper ≡ K.kept self.old.keeper) }
+        ensures fault { IfErr result (λ e. e ≡ StepFault.KeeperFault → HasRisen (K.faults self.old.keeper) (K.faults self.new.keeper)) }
+        ensures counted { K.faults self.old.keeper ≤ K.faults self.new.keeper }
+    {
+        record_event(
+            &mut self.keeper,
+            &mut self.journal,
+            &mut self.tables,
+            stamped,
+        )
+    }
+
+    /// Grants a request, or refuses it by the first rule that it breaks.
+    pub fn ask(&mut self, request: Request, now: Moment) -> Result<Answer, AskFault>
+        ensures granted { IfOk result (λ a. (a ≡ answer_of self.old.journal request)
+            × (self.new.journal ≡ self.old.journal ++ record { at = stamp self.old.journal now; event = Asked request } ∷ [])) }
+        ensures refused { (n : Refusal) → (result ≡ Err (AskFault.Refused n)) ↔ (refusal self.old.journal request ≡ Some n) }
+        ensures err { OnErr result ((self.new.journal ≡ self.old.journal) × (K.kept self.new.keeper ≡ K.kept self.old.keeper)) }
+        ensures fault { IfErr result (λ e. e ≡ AskFault.KeeperFault → HasRisen (K.faults self.old.keeper) (K.faults self.new.keeper)) }
+        ensures counted { K.faults self.old.keeper ≤ K.faults self.new.keeper }
+    {
+        if let Some(refusal) = self.refusal(&request) {
+            return Err(AskFault::Refused(refusal));
+        }
+        let answer = self.answer(&request);
+        let at = self.stamp(now);
+        let event = Event::Asked(request);
+        self.record(Stamped { at, event })?;
+        Ok(answer)
+    }
+
+    /// Hands over the due mails of the user with the least due moment, ties by the lower number.
+    pub fn mail_turn(&mut self, now: Moment) -> Result<MailAnswer, StepFault>
+        ensures answered { IfOk result (λ a. IsMailTurn self.old.journal (stamp self.old.journal now) a self.new.journal) }
+        // Where nothing is due it takes no memory, so the answer is promised.
+        ensures not_due { NoneIsDue self.old.journal (stamp self.old.journal now) → result ≡ Ok (MailAnswer.NotDue (least_due self.old.journal)) }
+        ensures err { OnErr result ((self.new.journal ≡ self.old.journal) × (K.kept self.new.keeper ≡ K.kept self.old.keeper)) }
+        ensures fault { IfErr result (λ e. e ≡ StepFault.KeeperFault → HasRisen (K.faults self.old.keeper) (K.faults self.new.keeper)) }
+        ensures counted { K.faults self.old.keeper ≤ K.faults self.new.keeper }
+    {
+        let at = self.stamp(now);
+        let Some(first) = self.first_due() else {
+            return Ok(MailAnswer::NotDue(None));
+        };
+        if at.seconds() < first.due {
+            return Ok(MailAnswer::NotDue(Some(first.due)));
+        }
+        let user = first.user;
+        let rows = self.batch_rows(user);
+        let before = self.entries();
+        let event = Event::MailTurn(user);
+        self.record(Stamped { at, event })?;
+        let entries = self.entries() - before;
+        Ok(MailAnswer::Mailed {
+            user,
+            entries: entries as u64,
+            dropped: (rows - entries) as u64,
+        })
+    }
+}

@@ -1,0 +1,140 @@
+//! The office with ample memory, over a keeper in memory.
+use crate::{AskFault, MailAnswer, Office, StartFault, StepFault};
+use chat_model::{
+    Answer, ChannelId, DealNo, List, MessageId, Moment, Refusal, Request, Text, UserId,
+};
+use keeper::{Keeper, MemoryKeeper};
+use std::alloc::Global;
+use std::process::Abort;
+use std::test::Fail;
+
+fn moment(rt: &impl Abort, seconds: u64) -> Moment {
+    Moment::new(seconds).expect(rt, "a moment")
+}
+
+fn add_user(alloc: Global, name: &str) -> Result<Request, Fail> {
+    let name = Text::from_str(alloc, name)?;
+    Ok(Request::AddUser { name, bot: false })
+}
+
+fn subscribe(user: u64) -> Request {
+    Request::Subscribe {
+        user: UserId(user),
+        channel: ChannelId(1),
+        on: true,
+    }
+}
+
+fn send(alloc: Global, sender: u64, channel: u64) -> Result<Request, Fail> {
+    Ok(Request::Send {
+        sender: UserId(sender),
+        channel: ChannelId(channel),
+        topic: Text::from_str(alloc, "lunch")?,
+        text: Text::from_str(alloc, "hi @**Ben**")?,
+    })
+}
+
+// Ada and Ben, both subscribed to a channel, on a keeper of which the calls of the list fail.
+fn team(rt: &impl Abort, alloc: Global, failing: List<u64>) -> Result<Office<MemoryKeeper>, Fail> {
+    let keeper = MemoryKeeper::new(alloc, failing);
+    let now = moment(rt, 0);
+    let Ok(mut office) = Office::start(alloc, keeper, now) else {
+        return Err(Fail::from("no start"));
+    };
+    let ada = office.ask(add_user(alloc, "Ada")?, now);
+    assert_eq!(rt; ada, Ok(Answer::User(UserId(1))));
+    let ben = office.ask(add_user(alloc, "Ben")?, now);
+    assert_eq!(rt; ben, Ok(Answer::User(UserId(2))));
+    let name = Text::from_str(alloc, "team")?;
+    let channel = office.ask(Request::AddChannel { name }, now);
+    assert_eq!(rt; channel, Ok(Answer::Channel(ChannelId(1))));
+    assert_eq!(rt; office.ask(subscribe(1), now), Ok(Answer::Done));
+    assert_eq!(rt; office.ask(subscribe(2), now), Ok(Answer::Done));
+    Ok(office)
+}
+
+#[test]
+fn a_mention_is_mailed_after_the_period(rt: HostRuntime) -> Result<(), Fail> {
+    let alloc = rt.alloc();
+    let mut office = team(&rt, alloc, List::new(alloc))?;
+    let sent = office.ask(send(alloc, 1, 1)?, moment(&rt, 100));
+    let message = MessageId(1);
+    let deal = DealNo(0);
+    assert_eq!(rt; sent, Ok(Answer::Sent { message, deal }));
+    let early = office.mail_turn(moment(&rt, 219));
+    assert_eq!(rt; early, Ok(MailAnswer::NotDue(Some(220))));
+    let due = office.mail_turn(moment(&rt, 220));
+    let mailed = MailAnswer::Mailed {
+        user: UserId(2),
+        entries: 1,
+        dropped: 0,
+    };
+    assert_eq!(rt; due, Ok(mailed));
+    let late = office.mail_turn(moment(&rt, 220));
+    assert_eq!(rt; late, Ok(MailAnswer::NotDue(None)));
+    assert_eq!(rt; office.journal().len(), 8);
+    let mut keeper = office.close();
+    let Ok(kept) = keeper.load() else {
+        return Err(Fail::from("no load"));
+    };
+    assert_eq!(rt; kept.journal.len(), 8);
+    assert_eq!(rt; kept.rows.len(), 5);
+    Ok(())
+}
+
+#[test]
+fn a_broken_rule_is_refused(rt: HostRuntime) -> Result<(), Fail> {
+    let alloc = rt.alloc();
+    let now = moment(&rt, 100);
+    let mut office = team(&rt, alloc, List::new(alloc))?;
+    let unknown_user = office.ask(send(alloc, 3, 1)?, now);
+    assert_eq!(rt; unknown_user, Err(AskFault::Refused(Refusal::NoUser)));
+    let unknown_channel = office.ask(send(alloc, 1, 9)?, now);
+    assert_eq!(rt; unknown_channel, Err(AskFault::Refused(Refusal::NoChannel)));
+    let left = office.ask(
+        Request::Subscribe {
+            user: UserId(2),
+            channel: ChannelId(1),
+            on: false,
+        },
+        now,
+    );
+    assert_eq!(rt; left, Ok(Answer::Done));
+    let not_subscribed = office.ask(send(alloc, 2, 1)?, now);
+    assert_eq!(rt;
+        not_subscribed,
+        Err(AskFault::Refused(Refusal::NotSubscribed))
+    );
+    Ok(())
+}
+
+#[test]
+fn a_failed_commit_is_a_fault_and_changes_nothing(rt: HostRuntime) -> Result<(), Fail> {
+    let alloc = rt.alloc();
+    let mut failing = List::new(alloc);
+    failing.push(8)?;
+    failing.push(10)?;
+    let mut office = team(&rt, alloc, failing)?;
+    let fault = office.ask(send(alloc, 1, 1)?, moment(&rt, 100));
+    assert_eq!(rt; fault, Err(AskFault::KeeperFault));
+    let sent = office.ask(send(alloc, 1, 1)?, moment(&rt, 100));
+    let message = MessageId(1);
+    let deal = DealNo(0);
+    assert_eq!(rt; sent, Ok(Answer::Sent { message, deal }));
+    let turn = office.mail_turn(moment(&rt, 220));
+    assert_eq!(rt; turn, Err(StepFault::KeeperFault));
+    Ok(())
+}
+
+#[test]
+fn a_kept_journal_is_not_empty(rt: HostRuntime) -> Result<(), Fail> {
+    let alloc = rt.alloc();
+    let office = team(&rt, alloc, List::new(alloc))?;
+    match Office::start(alloc, office.close(), moment(&rt, 0)) {
+        Ok(_) => Err(Fail::from("started")),
+        Err((fault, _)) => {
+            assert_eq!(rt; fault, StartFault::NotEmpty);
+            Ok(())
+        }
+    }
+}
