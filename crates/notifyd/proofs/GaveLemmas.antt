@@ -54,8 +54,8 @@ GaveBadLine-then m bytes after number column h q = record {
   count = m + q.count;
   gave = GaveBytes-then m q.count (Some bytes) (Some (drop m bytes)) after (record { within = h; left = refl }) q.gave;
   bad =
-    let P : Cut → Type 0 = λ cut. IsBadLine (all_lines cut) number column in
-    subst P (sym (cut_on-append uncut (take m bytes) (take q.count (drop m bytes))) ∙ ap cut_of (sym (take-add m q.count bytes))) q.bad;
+      let P : Cut → Type 0 = λ cut. IsBadLine (all_lines cut) number column in
+      subst P (sym (cut_on-append uncut (take m bytes) (take q.count (drop m bytes))) ∙ ap cut_of (sym (take-add m q.count bytes))) q.bad;
 }
 
 -- a bad line behind the last complete one, where the input ended
@@ -73,11 +73,11 @@ GaveBadLine-within cut bytes piece after count within number column h given left
   count = count;
   gave = record { within = given.within; left = left };
   bad =
-    let P : List ℕ → Type 0 = λ front. IsBadLine (cut_on cut front).lines number column in
-    let same : take within piece ≡ take within (take count bytes) = sym (take-take within count piece h) ∙ ap (take within) given.bytes in
-    let here = subst P same bad in
-    let there = IsBadLine-on (cut_on cut (take within (take count bytes))) (drop within (take count bytes)) number column here in
-    let Q : Cut → Type 0 = λ at. IsBadLine at.lines number column in
-    let all = subst Q (sym (cut_on-append cut (take within (take count bytes)) (drop within (take count bytes))) ∙ ap (cut_on cut) (take-append-drop within (take count bytes))) there in
-    IsBadLine-front _ (last_line (cut_on cut (take count bytes)).rest) number column all;
+      let P : List ℕ → Type 0 = λ front. IsBadLine (cut_on cut front).lines number column in
+      let same : take within piece ≡ take within (take count bytes) = sym (take-take within count piece h) ∙ ap (take within) given.bytes in
+      let here = subst P same bad in
+      let there = IsBadLine-on (cut_on cut (take within (take count bytes))) (drop within (take count bytes)) number column here in
+      let Q : Cut → Type 0 = λ at. IsBadLine at.lines number column in
+      let all = subst Q (sym (cut_on-append cut (take within (take count bytes)) (drop within (take count bytes))) ∙ ap (cut_on cut) (take-append-drop within (take count bytes))) there in
+      IsBadLine-front _ (last_line (cut_on cut (take count bytes)).rest) number column all;
 }

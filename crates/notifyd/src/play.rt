@@ -6,9 +6,9 @@ ghost use Rattle.std.specs.Option.{option_map};
 ghost use Rattle.notifyd.specs.Sink.{WritesFront};
 ghost use Rattle.notifyd.specs.Play.{world, IsStep, PlaysLine, AnswersLine, IsCounted, answer_text, is_keeper_fault, is_out_of_memory};
 
+use crate::Sink;
 use crate::line::{Column, Line, LineFault, read_line};
 use crate::reply::{Reply, write_reply};
-use crate::Sink;
 use chat_model::{Moment, Request};
 use keeper::Keeper;
 use office::{AskFault, Office, StepFault};
@@ -92,7 +92,11 @@ fn step<K: Keeper>(play: &mut Play<K>, line: Line) -> Option<Reply>
 }
 
 // What a line is answered, where it has an answer; else the column at which it is bad.
-fn answer<K: Keeper>(play: &mut Play<K>, alloc: Global, bytes: &[u8]) -> Result<Option<Reply>, Column>
+fn answer<K: Keeper>(
+    play: &mut Play<K>,
+    alloc: Global,
+    bytes: &[u8],
+) -> Result<Option<Reply>, Column>
     ensures played { IfOk result (λ reply. PlaysLine (world play.old.office.journal play.old.clock) bytes.now reply
         (world play.new.office.journal play.new.clock)) }
     ensures bad { IfErr result (λ column. reading bytes.now ≡ Err column) }

@@ -92,7 +92,12 @@ fn play_piece<K: Keeper, O: Sink>(
 }
 
 // Plays the bytes behind the last complete line, where there are any: the input came to its end.
-fn play_last<K: Keeper, O: Sink>(play: &mut Play<K>, alloc: Global, line: &[u8], out: &mut O) -> Ending
+fn play_last<K: Keeper, O: Sink>(
+    play: &mut Play<K>,
+    alloc: Global,
+    line: &[u8],
+    out: &mut O,
+) -> Ending
     requires { play.old.line < 2 ^ 64 - 1 }
     ensures neither { (result ≢ Ending.SourceFault) × (result ≢ Ending.TooLong) }
     ensures bad { (number column : ℕ) → result ≡ Ending.Stopped (Stop.BadLine number column) → (cut : Cut) →

@@ -37,4 +37,4 @@ returns-in-Err-clause-more g c = λ e. GaveMore-then _ _ _ _ _ c.pieces.invarian
 pub returns-in-Err-clause-bad : goal.returns-in-Err-clause-bad
 returns-in-Err-clause-bad g c = λ number column e. if_told _ _ (λ bytes tells.
     GaveBadLine-then _ _ _ _ _ (told _ _ (λ all. c.pieces.taken ≤ length all) tells c.pieces.invariant.gave.within)
-      (c.in-Err.ensures.bad number column (ap Err e) _ (told_after _ _ _ _ c.pieces.invariant.gave tells) _ (c.pieces.invariant.cut bytes tells)))
+    (c.in-Err.ensures.bad number column (ap Err e) _ (told_after _ _ _ _ c.pieces.invariant.gave tells) _ (c.pieces.invariant.cut bytes tells)))
