@@ -1,0 +1,8 @@
+use Rattle.notifyd.specs.Cut.{GaveBadLine, uncut}
+use Rattle.notifyd.proofs.GaveLemmas.{told, if_told}
+use Rattle.notifyd.proofs.command.play_script.Goals as goal
+
+pub returns-in-Ok-clause-bad_line : goal.returns-in-Ok-clause-bad_line
+returns-in-Ok-clause-bad_line g c = λ e.
+    let b = c.end_play.ensures.bad e in
+    if_told _ _ (λ bytes tells. (b.0, b.1, told _ _ (λ all. GaveBadLine uncut all (g.S.Source.remaining c.play_source-ending.new.source) b.0 b.1) tells (c.play_source-ending.ensures.bad b.0 b.1 b.2)))
