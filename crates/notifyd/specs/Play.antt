@@ -13,7 +13,7 @@ use Rattle.notice_ledger.specs.Due.{DueUser, first_due, batch_rows}
 use Rattle.notice_ledger.specs.Outbox.{mail_entries}
 use Rattle.office.specs.declared.answer.MailAnswer.TheVariants.{Mailed, NotDue}
 use Rattle.office.specs.Office.{answer_of, least_due}
-use Rattle.notifyd.specs.Count.{HasRisen}
+use Rattle.chat_model.specs.Counts.{HasRisen}
 use Rattle.notifyd.specs.Grammar.{reading}
 use Rattle.notifyd.specs.Reply.{reply_text}
 use Rattle.notifyd.specs.declared.play.Met.{Met}

@@ -1,7 +1,7 @@
 //! The command line, and what it runs.
 ghost use Rattle.std.specs.Prelude.{◌≡◌, ◌≢◌, ℕ, ◌+◌, ◌<◌, ◌≤◌, ◌⊎◌, List, [], length, true, false, IfOk, IfErr, IfSome, OnOk, OnErr, vec_len};
 ghost use Rattle.std.specs.Vec.{vec_capacity};
-ghost use Rattle.notifyd.specs.Count.{HasRisen};
+ghost use Rattle.chat_model.specs.Counts.{HasRisen};
 ghost use Rattle.notifyd.specs.Cut.{GaveMore, GaveBadLine, uncut};
 ghost use Rattle.notifyd.specs.Status.{is_play, IsAmong, statuses, play_statuses, KeptIsEmpty, KeptIsConsistent};
 
@@ -10,8 +10,8 @@ use crate::line::MAX_LINE;
 use crate::play::{Met, Play, Stop};
 use crate::reply::{Reply, write_reply};
 use crate::script::{Ending, MAX_SCRIPT, play_source};
-use crate::{Failed, Sink, Source, Spool};
-use chat_model::{Moment, Text};
+use crate::{Sink, Source, Spool};
+use chat_model::{Failed, Moment, Text};
 use keeper::Keeper;
 use office::{Office, StartFault};
 use std::alloc::Global;

@@ -2,7 +2,6 @@
 #![tactic(auto)]
 
 mod command;
-mod failed;
 mod field;
 mod form;
 mod last_line;
@@ -19,7 +18,6 @@ mod standard;
 
 use chat_model::{List, OutOfMemory, Text};
 pub use command::{Ran, run};
-pub use failed::Failed;
 use keeper::MemoryKeeper;
 pub use last_line::{LastLine, write_last_line};
 pub use line::{Column, Line, LineFault, MAX_LINE, read_line};

@@ -1,6 +1,6 @@
 //! A play under way, and what one line does in it.
 ghost use Rattle.std.specs.Prelude.{◌≡◌, ℕ, ◌+◌, ◌-◌, ◌^◌, ◌<◌, ◌≤◌, ◌||◌, ◌++◌, true, max, IfOk, IfErr, OnOk, OnErr, Ok, Err, Some};
-ghost use Rattle.notifyd.specs.Count.{HasRisen};
+ghost use Rattle.chat_model.specs.Counts.{HasRisen};
 ghost use Rattle.notifyd.specs.Grammar.{reading};
 ghost use Rattle.std.specs.Option.{option_map};
 ghost use Rattle.notifyd.specs.Sink.{WritesFront};

@@ -152,3 +152,33 @@ fn other_words_are_no_command(rt: HostRuntime) -> Result<(), Fail> {
     assert_eq!(rt; sink.bytes(), usage.as_bytes());
     Ok(())
 }
+
+#[test]
+fn a_keeper_that_keeps_something_is_not_started_over(rt: HostRuntime) -> Result<(), Fail> {
+    let alloc = rt.alloc();
+    let words = vec![in alloc; Text::from_str(alloc, "play")?]?;
+    let mut source = MemorySource::new(List::new(alloc), 1, List::new(alloc));
+    let mut sink = MemorySink::new(alloc, 256, List::new(alloc))?;
+    let mut spool = MemorySpool::new(alloc, List::new(alloc));
+    let keeper = MemoryKeeper::new(alloc, List::new(alloc));
+    let first = run(
+        alloc,
+        words.as_slice(),
+        &mut source,
+        &mut sink,
+        keeper,
+        &mut spool,
+    );
+    assert_eq!(rt; first.status, 0);
+    let again = run(
+        alloc,
+        words.as_slice(),
+        &mut source,
+        &mut sink,
+        first.keeper,
+        &mut spool,
+    );
+    assert_eq!(rt; again.status, 8);
+    assert_eq!(rt; sink.bytes(), b"not empty\n");
+    Ok(())
+}

@@ -1,13 +1,14 @@
 //! The bytes of a script, cut into lines that are played as soon as they are complete.
 ghost use Rattle.std.specs.Prelude.{◌≡◌, ◌≢◌, ℕ, ◌+◌, ◌-◌, ◌^◌, ◌<◌, ◌≤◌, List, [], length, take, drop, IfOk, IfErr, IfSome, OnOk, OnErr, Ok, Err, Some, vec_len};
 ghost use Rattle.std.specs.Vec.{vec_capacity};
-ghost use Rattle.notifyd.specs.Count.{HasRisen};
+ghost use Rattle.chat_model.specs.Counts.{HasRisen};
 ghost use Rattle.notifyd.specs.Cut.{Cut, IsCutAt, IsBadLine, GaveBytes, GaveMore, GaveBadLine, uncut, cut_more, cut_on, cut_of, all_lines};
 ghost use Rattle.notifyd.specs.Play.{IsCounted};
 
 use crate::line::MAX_LINE;
 use crate::play::{Play, Stop, play_line};
-use crate::{Failed, Sink, Source};
+use crate::{Sink, Source};
+use chat_model::Failed;
 use keeper::Keeper;
 use std::alloc::Global;
 

@@ -1,8 +1,9 @@
 //! The program's own input and output as a source and a sink. They tell nothing of the bytes.
 ghost use Rattle.std.specs.Prelude.{◌≡◌, ℕ, ◌≤◌, ◌<◌, IfOk, OnErr, length, Option, None};
-ghost use Rattle.notifyd.specs.Count.{HasRisen};
+ghost use Rattle.chat_model.specs.Counts.{HasRisen};
 
-use crate::{Failed, Sink, Source};
+use crate::{Sink, Source};
+use chat_model::Failed;
 use std::io::{Read, Write};
 
 /// A reader as a source.

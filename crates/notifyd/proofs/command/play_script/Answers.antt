@@ -8,4 +8,4 @@ returns-in-Ok-clause-bad_line g c = λ e.
     let b = c.end_play.ensures.bad e in
     let rest = g.S.Source.remaining c.play_source-ending.new.source in
     if_told _ (λ bytes. (number : ℕ) × (column : ℕ) × GaveBadLine uncut bytes rest number column) (λ bytes tells.
-        (b.0, b.1, told _ _ (λ all. GaveBadLine uncut all rest b.0 b.1) tells (c.play_source-ending.ensures.bad b.0 b.1 b.2)))
+    (b.0, b.1, told _ _ (λ all. GaveBadLine uncut all rest b.0 b.1) tells (c.play_source-ending.ensures.bad b.0 b.1 b.2)))
