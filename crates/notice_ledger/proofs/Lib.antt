@@ -7,3 +7,4 @@ pub mod Sent
 pub mod LawfulLemmas
 pub mod Sums
 pub mod Apart
+pub mod Places
