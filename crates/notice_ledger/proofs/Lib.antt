@@ -5,3 +5,6 @@ pub mod Ascending
 pub mod Batches
 pub mod Sent
 pub mod LawfulLemmas
+pub mod Sums
+pub mod Apart
+pub mod Places

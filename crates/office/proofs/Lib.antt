@@ -7,3 +7,4 @@ pub mod Following
 pub mod Subscribed
 pub mod After
 pub mod Offices
+pub mod Conserved

@@ -34,26 +34,26 @@ use Rattle.office.specs.Changes.{new_user_rows, new_message_rows, notice_key, is
 
 -- ---- tables
 
-abbrev table : RowKey → ℕ
+abbrev pub table : RowKey → ℕ
 table (key.User user) = 0
 table (key.Message message) = 1
 table (key.Pending user message way) = 2
 table (key.Outbox number) = 3
 
-abbrev change_key : RowChange → RowKey
+abbrev pub change_key : RowChange → RowKey
 change_key (Put row) = key_of row
 change_key (Remove k) = k
 
 -- changes of rows of one table
-abbrev AreOf : ℕ → List RowChange → Type 0
+abbrev pub AreOf : ℕ → List RowChange → Type 0
 AreOf t changes = AllByRecursion (λ c. table (change_key c) ≡ t) changes
 
-equal_from : (o : Ordering) → is_eq o ≡ true → o ≡ Equal
+pub equal_from : (o : Ordering) → is_eq o ≡ true → o ≡ Equal
 equal_from Less h = absurd (cc)
 equal_from Equal h = refl
 equal_from Greater h = absurd (cc)
 
-other_key : (a k : RowKey) → table a ≢ table k → is_eq (key_cmp a k) ≡ false
+pub other_key : (a k : RowKey) → table a ≢ table k → is_eq (key_cmp a k) ≡ false
 other_key a k other =
     elim (is_eq (key_cmp a k)) as (λ b. is_eq (key_cmp a k) ≡ b → b ≡ false) [
       | true ↦ λ e. absurd (other (ap table (same_key a k (equal_from (key_cmp a k) e))))
@@ -110,19 +110,19 @@ own_changes k us ms ps os x of =
 puts_append : (xs ys : List Row) → map Put (xs ++ ys) ≡ map Put xs ++ map Put ys
 puts_append xs ys = map-append Put xs ys
 
-users_are : (j : List Stamped) (n : ℕ) (ps : List Person) → AreOf 0 (map Put (user_rows_from j n ps))
+pub users_are : (j : List Stamped) (n : ℕ) (ps : List Person) → AreOf 0 (map Put (user_rows_from j n ps))
 users_are j n [] = tt
 users_are j n (p ∷ ps) = (refl, users_are j (n + 1) ps)
 
-messages_are : (n : ℕ) (ms : List SentMessage) → AreOf 1 (map Put (message_rows_from n ms))
+pub messages_are : (n : ℕ) (ms : List SentMessage) → AreOf 1 (map Put (message_rows_from n ms))
 messages_are n [] = tt
 messages_are n (m ∷ ms) = (refl, messages_are (n + 1) ms)
 
-waiting_are : (ns : List Notice) → AreOf 2 (map Put (map waiting_row ns))
+pub waiting_are : (ns : List Notice) → AreOf 2 (map Put (map waiting_row ns))
 waiting_are [] = tt
 waiting_are (n ∷ ns) = (refl, waiting_are ns)
 
-outbox_are : (n : ℕ) (es : List Entry) → AreOf 3 (map Put (outbox_rows_from n es))
+pub outbox_are : (n : ℕ) (es : List Entry) → AreOf 3 (map Put (outbox_rows_from n es))
 outbox_are n [] = tt
 outbox_are n (e ∷ es) = (refl, outbox_are (n + 1) es)
 
