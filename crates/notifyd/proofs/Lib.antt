@@ -4,3 +4,7 @@ pub mod FieldLemmas
 pub mod TextLemmas
 pub mod PlainLemmas
 pub mod LineLemmas
+pub mod PlayLemmas
+pub mod CutLemmas
+pub mod CountLemmas
+pub mod GaveLemmas

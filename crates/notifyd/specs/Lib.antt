@@ -11,3 +11,6 @@ pub mod Quoted
 pub mod Form
 pub mod Grammar
 pub mod Fault
+pub mod Cut
+pub mod Play
+pub mod Status

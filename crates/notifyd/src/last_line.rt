@@ -1,13 +1,14 @@
 //! The line that ends a run early, and its text.
 ghost use Rattle.std.specs.Prelude.{◌≡◌, ◌+◌, ◌≤◌, ◌++◌, length, OnOk, OnErr};
 ghost use Rattle.std.specs.Option.{option_map};
-ghost use Rattle.notifyd.specs.Count.{HasRisen};
+ghost use Rattle.chat_model.specs.Counts.{HasRisen};
 ghost use Rattle.notifyd.specs.Sink.{WritesFront};
 ghost use Rattle.notifyd.specs.LastLine.{last_line_text};
 
+use crate::Sink;
 use crate::print_line::{LineBuffer, push_number};
 use crate::sink::write_all;
-use crate::{Failed, Sink};
+use chat_model::Failed;
 
 /// The line that ends a run early.
 #[derive(Clone, Copy, Debug, PartialEq, Eq)]

@@ -1,27 +1,74 @@
 //! The program `notifyd`: it plays a script of lines over an office, and writes the answers.
 #![tactic(auto)]
 
-mod failed;
+mod command;
 mod field;
 mod form;
 mod last_line;
 mod line;
 mod plain_text;
+mod play;
 mod print_line;
 mod reply;
+mod script;
 mod sink;
 mod source;
 mod spool;
+mod standard;
 
-pub use failed::Failed;
+use chat_model::{List, OutOfMemory, Text};
+pub use command::{Ran, run};
+use keeper::MemoryKeeper;
 pub use last_line::{LastLine, write_last_line};
 pub use line::{Column, Line, LineFault, MAX_LINE, read_line};
 pub use reply::{Reply, print_reply, write_reply};
 pub use sink::{MemorySink, Sink, write_all};
 pub use source::{MemorySource, Source};
 pub use spool::{MemorySpool, PutFault, Spool};
+pub use standard::{StandardSink, StandardSource};
+use std::process::ExitCode;
+use std::{env, io};
 
+#[cfg(test)]
+mod run_tests;
 #[cfg(test)]
 mod tests;
 
-fn main() {}
+// The words of the command line. Where one is no text they are no command, and stand here as none at all.
+fn words_of(rt: &HostRuntime) -> Result<Vec<Text>, OutOfMemory> {
+    let alloc = rt.alloc();
+    let mut words = Vec::new(alloc);
+    match env::args(rt) {
+        Ok(args) => {
+            for word in args.skip(1) {
+                words.push(Text::from(word))?;
+            }
+            Ok(words)
+        }
+        Err(error) if error.kind() == io::ErrorKind::OutOfMemory => Err(OutOfMemory),
+        Err(_) => Ok(words),
+    }
+}
+
+fn main(rt: HostRuntime) -> ExitCode {
+    let alloc = rt.alloc();
+    let mut out = StandardSink::new(io::writer(&rt));
+    let Ok(words) = words_of(&rt) else {
+        return match write_reply(&mut out, &Reply::OutOfMemory) {
+            Ok(()) => ExitCode::from(7),
+            Err(_) => ExitCode::from(4),
+        };
+    };
+    let mut source = StandardSource::new(rt.reader());
+    let mut spool = MemorySpool::new(alloc, List::new(alloc));
+    let keeper = MemoryKeeper::new(alloc, List::new(alloc));
+    let ran = run(
+        alloc,
+        words.as_slice(),
+        &mut source,
+        &mut out,
+        keeper,
+        &mut spool,
+    );
+    ExitCode::from(ran.status)
+}

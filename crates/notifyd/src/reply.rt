@@ -1,15 +1,15 @@
 //! What a line is answered, and its text.
 ghost use Rattle.std.specs.Prelude.{◌≡◌, ◌+◌, ◌≤◌, ◌++◌, length, codes, decimal, IfOk, OnOk, OnErr};
 ghost use Rattle.std.specs.Option.{option_map};
-ghost use Rattle.notifyd.specs.Count.{HasRisen};
+ghost use Rattle.chat_model.specs.Counts.{HasRisen};
 ghost use Rattle.notifyd.specs.Sink.{WritesFront};
 ghost use Rattle.notifyd.specs.Words.{answer_words, mail_words, account_words, count_words, refusal_number};
 ghost use Rattle.notifyd.specs.Reply.{reply_text};
 
+use crate::Sink;
 use crate::print_line::{LineBuffer, push_count, push_number};
 use crate::sink::write_all;
-use crate::{Failed, Sink};
-use chat_model::{Answer, Counts, OutOfMemory, Refusal, Text};
+use chat_model::{Answer, Counts, Failed, OutOfMemory, Refusal, Text};
 use office::MailAnswer;
 use std::alloc::Global;
 

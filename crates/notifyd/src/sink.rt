@@ -2,11 +2,11 @@
 ghost use Rattle.std.specs.Prelude.{◌≡◌, ℕ, [], ◌+◌, ◌<◌, ◌≤◌, ◌==◌, ◌||◌, ◌↔◌, ◌++◌, List, length, take, IfOk, OnOk, OnErr, IsErr, IsTrue, Option, Some, nat_lt};
 ghost use Rattle.std.specs.Option.{option_map};
 ghost use Rattle.std.specs.List.{list_any};
-ghost use Rattle.notifyd.specs.Count.{raised, HasRisen};
+ghost use Rattle.chat_model.specs.Counts.{HasRisen};
+ghost use Rattle.notifyd.specs.Count.{raised};
 ghost use Rattle.notifyd.specs.Sink.{WritesFront};
 
-use crate::Failed;
-use chat_model::{List, OutOfMemory};
+use chat_model::{Failed, List, OutOfMemory};
 use std::alloc::Global;
 use std::marker::Model;
 

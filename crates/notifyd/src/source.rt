@@ -2,11 +2,11 @@
 ghost use Rattle.std.specs.Prelude.{◌≡◌, ℕ, ◌+◌, ◌<◌, ◌≤◌, ◌==◌, ◌↔◌, List, length, take, drop, min, IfOk, OnErr, IsErr, IsTrue, Option, Some, IfSome};
 ghost use Rattle.std.specs.Option.{option_map};
 ghost use Rattle.std.specs.List.{list_any};
-ghost use Rattle.notifyd.specs.Count.{raised, HasRisen};
+ghost use Rattle.chat_model.specs.Counts.{HasRisen};
+ghost use Rattle.notifyd.specs.Count.{raised};
 ghost use Rattle.notifyd.specs.Device.{GivesNext};
 
-use crate::Failed;
-use chat_model::List;
+use chat_model::{Failed, List};
 use std::marker::Model;
 
 /// A stream of bytes that is read to its end.

@@ -2,7 +2,8 @@
 ghost use Rattle.std.specs.Prelude.{◌≡◌, ℕ, [], ◌≤◌, ◌==◌, ◌↔◌, List, Option, Some, OnOk, OnErr, IsErr, IsErrOf, IsTrue, IfSome, is_some};
 ghost use Rattle.std.specs.Option.{option_map, option_copied};
 ghost use Rattle.std.specs.List.{list_any};
-ghost use Rattle.notifyd.specs.Count.{raised, HasRisen};
+ghost use Rattle.chat_model.specs.Counts.{HasRisen};
+ghost use Rattle.notifyd.specs.Count.{raised};
 ghost use Rattle.notifyd.specs.MemoryDevices.{files_of};
 ghost use Rattle.notifyd.specs.Device.{File, file_of, with_file, KeepsOtherFiles, PutsFile};
 

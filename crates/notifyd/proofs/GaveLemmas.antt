@@ -1,0 +1,83 @@
+-- What a source gave at one read after another.
+use Rattle.std.proofs.Common.{◌≡◌, ℕ, ◌+◌, ◌-◌, ◌<◌, ◌≤◌, List, [], ◌∷◌, ◌++◌, length, take, drop, Option, Some, None, refl, sym, ap, ◌∙◌, subst, length-drop, take-append-drop, arith}
+use Rattle.std.specs.Prelude.{IfSome, option_map}
+use Rattle.std.proofs.Math.Seq.{take-add}
+use Rattle.std.proofs.lemmas.List.{drop-drop, take-take}
+use Rattle.notifyd.specs.Device.{GivesNext}
+use Rattle.notifyd.specs.Cut.{Cut, IsCutAt, IsBadLine, GaveBytes, GaveMore, GaveBadLine, uncut, cut_on, cut_of, all_lines, last_line}
+use Rattle.notifyd.proofs.CutLemmas.{cut_on-append, IsBadLine-on, IsBadLine-front}
+
+-- what is said of the bytes that are told
+pub told : {T : Type 0} (o : Option T) (x : T) (P : T → Type 0) → o ≡ Some x → IfSome o P → P x
+told o x P e h = let Q : Option _ → Type 0 = λ it. IfSome it P in subst Q e h
+
+-- a fact of each value that may be told
+pub if_told : {T : Type 0} (o : Option T) (P : T → Type 0) → ((x : T) → o ≡ Some x → P x) → IfSome o P
+if_told None P h = tt
+if_told (Some x) P h = h x refl
+
+pub GaveBytes-none : (before : Option (List ℕ)) → GaveBytes 0 before before
+GaveBytes-none None = record { within = tt; left = refl }
+GaveBytes-none (Some bytes) = record { within = omega arith; left = refl }
+
+drop_twice : (m n : ℕ) (bytes : List ℕ) → drop n (drop m bytes) ≡ drop (m + n) bytes
+drop_twice m n bytes = drop-drop n m bytes
+
+pub GaveBytes-then : (m n : ℕ) (before now after : Option (List ℕ)) → GaveBytes m before now → GaveBytes n now after → GaveBytes (m + n) before after
+GaveBytes-then m n None now after p q = record { within = tt; left = q.left ∙ ap (option_map (λ bytes. drop n bytes)) p.left }
+GaveBytes-then m n (Some bytes) now after p q = record {
+  within = let h : n ≤ length (drop m bytes) = told now _ (λ rest. n ≤ length rest) p.left q.within in omega (arith, h, length-drop m bytes, p.within);
+  left = q.left ∙ ap (option_map (λ rest. drop n rest)) p.left ∙ ap Some (drop_twice m n bytes);
+}
+
+-- what a source tells after it gave so many bytes
+pub told_after : (n : ℕ) (before after : Option (List ℕ)) (bytes : List ℕ) → GaveBytes n before after → before ≡ Some bytes → after ≡ Some (drop n bytes)
+told_after n before after bytes p e = p.left ∙ ap (option_map (λ rest. drop n rest)) e
+
+-- where the cut stands after a read more
+pub IsCutAt-then : (m n number : ℕ) (bytes under_way : List ℕ) → IsCutAt (cut_on (cut_of (take m bytes)) (take n (drop m bytes))) number under_way → IsCutAt (cut_of (take (m + n) bytes)) number under_way
+IsCutAt-then m n number bytes under_way at =
+    let P : Cut → Type 0 = λ cut. IsCutAt cut number under_way in
+    subst P (sym (cut_on-append uncut (take m bytes) (take n (drop m bytes))) ∙ ap cut_of (sym (take-add m n bytes))) at
+
+-- more bytes than are allowed yet are more than are allowed in all
+pub GaveMore-then : (m most : ℕ) (before now after : Option (List ℕ)) → m ≤ most → GaveBytes m before now → GaveMore (most - m) now after → GaveMore most before after
+GaveMore-then m most before now after h p q = record {
+  count = m + q.count;
+  gave = GaveBytes-then m q.count before now after p q.gave;
+  more = omega (arith, q.more);
+}
+
+-- a bad line among the bytes of a later read
+pub GaveBadLine-then : (m : ℕ) (bytes : List ℕ) (after : Option (List ℕ)) (number column : ℕ) → m ≤ length bytes → GaveBadLine (cut_of (take m bytes)) (drop m bytes) after number column → GaveBadLine uncut bytes after number column
+GaveBadLine-then m bytes after number column h q = record {
+  count = m + q.count;
+  gave = GaveBytes-then m q.count (Some bytes) (Some (drop m bytes)) after (record { within = h; left = refl }) q.gave;
+  bad =
+      let P : Cut → Type 0 = λ cut. IsBadLine (all_lines cut) number column in
+      subst P (sym (cut_on-append uncut (take m bytes) (take q.count (drop m bytes))) ∙ ap cut_of (sym (take-add m q.count bytes))) q.bad;
+}
+
+-- a bad line behind the last complete one, where the input ended
+pub GaveBadLine-ended : (cut : Cut) (bytes piece : List ℕ) (after : Option (List ℕ)) (count number column : ℕ) → count ≡ 0 → GivesNext count bytes piece → after ≡ option_map (λ rest. drop count rest) (Some bytes) → IsBadLine (all_lines cut) number column → GaveBadLine cut bytes after number column
+unfolding cut_on
+GaveBadLine-ended cut bytes piece after count number column none given left bad = record {
+  count = 0;
+  gave = record { within = omega arith; left = left ∙ ap (λ n. option_map (λ rest. drop n rest) (Some bytes)) none };
+  bad = bad;
+}
+
+-- a bad line within the piece that was read
+pub GaveBadLine-within : (cut : Cut) (bytes piece : List ℕ) (after : Option (List ℕ)) (count within number column : ℕ) → within ≤ count → GivesNext count bytes piece → after ≡ option_map (λ rest. drop count rest) (Some bytes) → IsBadLine (cut_on cut (take within piece)).lines number column → GaveBadLine cut bytes after number column
+GaveBadLine-within cut bytes piece after count within number column h given left bad = record {
+  count = count;
+  gave = record { within = given.within; left = left };
+  bad =
+      let P : List ℕ → Type 0 = λ front. IsBadLine (cut_on cut front).lines number column in
+      let same : take within piece ≡ take within (take count bytes) = sym (take-take within count piece h) ∙ ap (take within) given.bytes in
+      let here = subst P same bad in
+      let there = IsBadLine-on (cut_on cut (take within (take count bytes))) (drop within (take count bytes)) number column here in
+      let Q : Cut → Type 0 = λ at. IsBadLine at.lines number column in
+      let all = subst Q (sym (cut_on-append cut (take within (take count bytes)) (drop within (take count bytes))) ∙ ap (cut_on cut) (take-append-drop within (take count bytes))) there in
+      IsBadLine-front _ (last_line (cut_on cut (take count bytes)).rest) number column all;
+}

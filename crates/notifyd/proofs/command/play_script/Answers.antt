@@ -1,0 +1,11 @@
+use Rattle.std.proofs.Common.{ℕ}
+use Rattle.notifyd.specs.Cut.{GaveBadLine, uncut}
+use Rattle.notifyd.proofs.GaveLemmas.{told, if_told}
+use Rattle.notifyd.proofs.command.play_script.Goals as goal
+
+pub returns-in-Ok-clause-bad_line : goal.returns-in-Ok-clause-bad_line
+returns-in-Ok-clause-bad_line g c = λ e.
+    let b = c.end_play.ensures.bad e in
+    let rest = g.S.Source.remaining c.play_source-ending.new.source in
+    if_told _ (λ bytes. (number : ℕ) × (column : ℕ) × GaveBadLine uncut bytes rest number column) (λ bytes tells.
+    (b.0, b.1, told _ _ (λ all. GaveBadLine uncut all rest b.0 b.1) tells (c.play_source-ending.ensures.bad b.0 b.1 b.2)))
