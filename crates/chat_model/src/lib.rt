@@ -1,6 +1,7 @@
 //! The words that every other crate speaks: ids, texts, requests, events, rows and outbox entries.
 #![tactic(auto)]
 
+mod counts;
 mod duplicate;
 mod entry;
 mod event;
@@ -18,6 +19,7 @@ mod tests;
 mod text;
 mod trigger;
 
+pub use counts::Counts;
 pub use duplicate::{Duplicate, duplicate_all};
 pub use entry::{Conversation, Entry, Item};
 pub use event::{Event, Stamped};

@@ -3,6 +3,7 @@ pub mod Appended
 pub mod Waiting
 pub mod Ascending
 pub mod Batches
+pub mod Audited
 pub mod Sent
 pub mod LawfulLemmas
 pub mod Sums

@@ -4,6 +4,7 @@ pub mod Triggers
 pub mod Owed
 pub mod Due
 pub mod Outbox
+pub mod Audit
 pub mod Rows
 pub mod Lawful
 pub mod Conserved

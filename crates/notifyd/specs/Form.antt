@@ -15,6 +15,7 @@ line_of_form bytes (form.Channel name) = line.Asked (AddChannel (text_at bytes n
 line_of_form bytes (form.Subscribe user channel on) = line.Asked (Subscribe user channel on)
 line_of_form bytes (form.Send sender channel topic text) = line.Asked (Send sender channel (text_at bytes topic) (text_at bytes text))
 line_of_form bytes form.Mail = line.Mail
+line_of_form bytes form.Audit = line.Audit
 
 -- the texts of the form are texts
 abbrev pub HasTexts : List ℕ → Form → Type 0
@@ -24,3 +25,4 @@ HasTexts bytes (form.Channel name) = IsTextAt bytes name
 HasTexts bytes (form.Subscribe user channel on) = Unit {0}
 HasTexts bytes (form.Send sender channel topic text) = IsTextAt bytes topic × IsTextAt bytes text
 HasTexts bytes form.Mail = Unit {0}
+HasTexts bytes form.Audit = Unit {0}

@@ -4,7 +4,7 @@ use Rattle.std.specs.List.{list_all}
 use Rattle.std.specs.Str.Lossy.{utf8_valid_len}
 use Rattle.chat_model.specs.declared.request.Request.TheVariants.{AddUser, AddChannel, Subscribe, Send}
 use Rattle.notifyd.specs.declared.line.Line.{Line}
-use Rattle.notifyd.specs.declared.line.Line.TheVariants.{Nothing, At, Asked, Mail}
+use Rattle.notifyd.specs.declared.line.Line.TheVariants.{Nothing, At, Asked, Mail, Audit}
 use Rattle.notifyd.specs.Field.{column_of, is_space, field_start, word_end, word_at, word_field, number_of, moment_of, switch_of, string_field, text_field, line_end}
 
 -- what a part of a line reads as, or the column at which the line is bad
@@ -60,6 +60,12 @@ mail_line line place = do
   end ← line_end line place
   Ok Mail
 
+-- `audit`
+unfoldable pub audit_line : List ℕ → ℕ → Result Line ℕ
+audit_line line place = do
+  end ← line_end line place
+  Ok Audit
+
 -- a line of fields: its first word says which fields follow, and another first word is a bad field
 unfoldable pub fields_reading : List ℕ → Result Line ℕ
 fields_reading line =
@@ -72,7 +78,8 @@ fields_reading line =
     else (if bytes_eq word (codes "sub") then subscribe_line line place
     else (if bytes_eq word (codes "send") then send_line line place
     else (if bytes_eq word (codes "mail") then mail_line line place
-    else Err (column_of start))))))
+    else (if bytes_eq word (codes "audit") then audit_line line place
+    else Err (column_of start)))))))
 
 -- a line that is empty, has only spaces, or whose first byte is `#`
 unfoldable pub is_nothing : List ℕ → Bool
@@ -117,3 +124,4 @@ IsRequest Nothing = ⊥
 IsRequest (At moment) = ⊥
 IsRequest (Asked request) = Unit {0}
 IsRequest Mail = ⊥
+IsRequest Audit = ⊥

@@ -11,6 +11,7 @@ use Rattle.notice_ledger.specs.Journal.{stamp}
 use Rattle.notice_ledger.specs.Lawful.{refusal}
 use Rattle.notice_ledger.specs.Due.{DueUser, first_due, batch_rows}
 use Rattle.notice_ledger.specs.Outbox.{mail_entries}
+use Rattle.notice_ledger.specs.Audit.{counts_of}
 use Rattle.office.specs.declared.answer.MailAnswer.TheVariants.{Mailed, NotDue}
 use Rattle.office.specs.Office.{answer_of, least_due}
 use Rattle.chat_model.specs.Counts.{HasRisen}
@@ -65,12 +66,13 @@ mailed_for (Some d) w =
     else record { after = w; reply = Some (reply.Mail (NotDue (Some d.due))) }
 
 -- what a line does where neither memory nor the keeper fails: `at` sets the clock to the greater of itself and the
--- moment, and the others are the event that the line names
+-- moment, `audit` gives the counts of the journal, and the others are the event that the line names
 abbrev pub clean_step : World → Line → Step
 clean_step w line.Nothing = record { after = w; reply = None }
 clean_step w (line.At moment) = record { after = world w.journal (max w.clock moment); reply = None }
 clean_step w (line.Asked request) = asked_unless (refusal w.journal request) w request
 clean_step w line.Mail = mailed_for (first_due w.journal) w
+clean_step w line.Audit = record { after = w; reply = Some (reply.Audit (counts_of w.journal)) }
 
 -- want of memory and a keeper's fault leave the world, and are answered by their line
 abbrev pub step : World → Line → Mark → Step
@@ -78,12 +80,13 @@ step w l Clean = clean_step w l
 step w l NoMemory = record { after = w; reply = Some reply.OutOfMemory }
 step w l KeeperFault = record { after = w; reply = Some reply.KeeperFault }
 
--- a line that has an answer
-abbrev pub is_answered : Line → Bool
-is_answered line.Nothing = false
-is_answered (line.At moment) = false
-is_answered (line.Asked request) = true
-is_answered line.Mail = true
+-- a line that may want memory: a request, and a mail turn
+abbrev pub may_want_memory : Line → Bool
+may_want_memory line.Nothing = false
+may_want_memory (line.At moment) = false
+may_want_memory (line.Asked request) = true
+may_want_memory line.Mail = true
+may_want_memory line.Audit = false
 
 -- a line that would add an event
 abbrev pub adds_event : World → Line → Bool
@@ -91,12 +94,13 @@ adds_event w line.Nothing = false
 adds_event w (line.At moment) = false
 adds_event w (line.Asked request) = is_none (refusal w.journal request)
 adds_event w line.Mail = option_map_or (λ d. nat_le d.due (stamp_now w)) (first_due w.journal) false
+adds_event w line.Audit = false
 
--- a mark that a line may have: memory is wanted only by a line that has an answer, and the keeper fails only at one
+-- a mark that a line may have: memory is wanted only by a request or a mail turn, and the keeper fails only at a line
 -- that would add an event
 abbrev pub MayHave : World → Line → Mark → Type 0
 MayHave w l Clean = ⊤
-MayHave w l NoMemory = IsTrue (is_answered l)
+MayHave w l NoMemory = IsTrue (may_want_memory l)
 MayHave w l KeeperFault = IsTrue (adds_event w l)
 
 -- the mark of a line is read off its reply
@@ -104,6 +108,7 @@ abbrev pub mark_of : Option Reply → Mark
 mark_of None = Clean
 mark_of (Some (reply.Answer answer)) = Clean
 mark_of (Some (reply.Mail answer)) = Clean
+mark_of (Some (reply.Audit counts)) = Clean
 mark_of (Some (reply.Refused refused)) = Clean
 mark_of (Some reply.KeeperFault) = KeeperFault
 mark_of (Some reply.OutOfMemory) = NoMemory

@@ -1,5 +1,6 @@
 -- The words in which answers are printed.
 use Rattle.std.specs.Prelude.{ℕ, List, ◌++◌, ◌∷◌, [], codes, decimal, Some, None}
+use Rattle.chat_model.specs.declared.counts.Counts.{Counts}
 use Rattle.chat_model.specs.declared.request.Answer.{Answer}
 use Rattle.chat_model.specs.declared.request.Answer.TheVariants.{User, Channel, Sent, Done}
 use Rattle.chat_model.specs.declared.request.Refusal.{Refusal}
@@ -24,6 +25,20 @@ mail_words (Mailed user entries dropped) =
     codes "mailed " ++ decimal user.0 ++ codes " entries=" ++ decimal entries ++ codes " dropped=" ++ decimal dropped
 mail_words (NotDue (Some moment)) = codes "not due " ++ decimal moment
 mail_words (NotDue None) = codes "not due -"
+
+-- the owed notices by account
+unfoldable pub account_words : Counts → List ℕ
+account_words counts =
+    codes "flight=" ++ decimal counts.flight ++ codes " held=" ++ decimal counts.held
+    ++ codes " ready=" ++ decimal counts.ready ++ codes " handed=" ++ decimal counts.handed
+    ++ codes " read=" ++ decimal counts.read ++ codes " deleted=" ++ decimal counts.deleted
+    ++ codes " off=" ++ decimal counts.off ++ codes " live=" ++ decimal counts.live
+
+-- the counts, each by its name
+abbrev pub count_words : Counts → List ℕ
+count_words counts =
+    codes "audit " ++ account_words counts ++ codes " entries=" ++ decimal counts.entries
+    ++ codes " waiting=" ++ decimal counts.waiting ++ codes " written=" ++ decimal counts.written
 
 -- the number of a refusal
 abbrev pub refusal_number : Refusal → ℕ

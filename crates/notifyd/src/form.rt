@@ -4,7 +4,7 @@ ghost use Rattle.notifyd.specs.Field.{column_of, unescaped, escaped};
 ghost use Rattle.notifyd.specs.Quoted.{IsTextAt, text_at};
 ghost use Rattle.notifyd.specs.Form.{line_of_form, HasTexts};
 ghost use Rattle.notifyd.specs.Grammar.{IsRequest};
-ghost use Rattle.notifyd.specs.Grammar.{at_line, user_line, channel_line, subscribe_line, send_line, mail_line, fields_reading};
+ghost use Rattle.notifyd.specs.Grammar.{at_line, user_line, channel_line, subscribe_line, send_line, mail_line, audit_line, fields_reading};
 
 use crate::field::{
     Quoted, begins_escape, column_of, first_word, line_end, moment_field, number_field,
@@ -36,6 +36,7 @@ pub enum Form {
         text: Quoted,
     },
     Mail,
+    Audit,
 }
 
 /// Reads the fields of a line.
@@ -60,6 +61,8 @@ pub fn read_form(line: &[u8]) -> Result<Form, Column>
         read_send(line, place)
     } else if word == b"mail".as_slice() {
         read_mail(line, place)
+    } else if word == b"audit".as_slice() {
+        read_audit(line, place)
     } else {
         Err(column_of(start))
     }
@@ -156,6 +159,18 @@ fn read_mail(line: &[u8], place: usize) -> Result<Form, Column>
     Ok(Form::Mail)
 }
 
+#[tactic(auto, unfolding(crate::specs::Grammar::audit_line))]
+fn read_audit(line: &[u8], place: usize) -> Result<Form, Column>
+    requires small { length line.now ≤ MAX_LINE }
+    requires place { place ≤ length line.now }
+    ensures ok { IfOk result (λ form. audit_line line.now place ≡ Ok (line_of_form line.now form)) }
+    ensures err { IfErr result (λ column. audit_line line.now place ≡ Err column) }
+    ensures texts { IfOk result (HasTexts line.now) }
+{
+    line_end(line, place)?;
+    Ok(Form::Audit)
+}
+
 /// Takes the memory for the texts of a form.
 pub fn make_line(alloc: Global, line: &[u8], form: Form) -> Result<Line, OutOfMemory>
     requires utf8 { IsUtf8 line.now }
@@ -187,6 +202,7 @@ pub fn make_line(alloc: Global, line: &[u8], form: Form) -> Result<Line, OutOfMe
             text: text_at(alloc, line, text)?,
         })),
         Form::Mail => Ok(Line::Mail),
+        Form::Audit => Ok(Line::Audit),
     }
 }
 

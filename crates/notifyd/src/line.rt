@@ -27,6 +27,8 @@ pub enum Line {
     Asked(Request),
     /// A mail turn.
     Mail,
+    /// The counts are asked for.
+    Audit,
 }
 
 /// Why a line was not read.

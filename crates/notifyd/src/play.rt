@@ -88,6 +88,7 @@ fn step<K: Keeper>(play: &mut Play<K>, line: Line) -> Option<Reply>
         }
         Line::Asked(request) => Some(ask(&mut play.office, play.clock, request)),
         Line::Mail => Some(mail(&mut play.office, play.clock)),
+        Line::Audit => Some(Reply::Audit(play.office.audit())),
     }
 }
 

@@ -3,13 +3,13 @@ ghost use Rattle.std.specs.Prelude.{◌≡◌, ◌+◌, ◌≤◌, ◌++◌, len
 ghost use Rattle.std.specs.Option.{option_map};
 ghost use Rattle.chat_model.specs.Counts.{HasRisen};
 ghost use Rattle.notifyd.specs.Sink.{WritesFront};
-ghost use Rattle.notifyd.specs.Words.{answer_words, mail_words, refusal_number};
+ghost use Rattle.notifyd.specs.Words.{answer_words, mail_words, account_words, count_words, refusal_number};
 ghost use Rattle.notifyd.specs.Reply.{reply_text};
 
 use crate::Sink;
-use crate::print_line::{LineBuffer, push_number};
+use crate::print_line::{LineBuffer, push_count, push_number};
 use crate::sink::write_all;
-use chat_model::{Answer, Failed, OutOfMemory, Refusal, Text};
+use chat_model::{Answer, Counts, Failed, OutOfMemory, Refusal, Text};
 use office::MailAnswer;
 use std::alloc::Global;
 
@@ -20,6 +20,8 @@ pub enum Reply {
     Answer(Answer),
     /// A mail turn was made, or nothing was due.
     Mail(MailAnswer),
+    /// The counts.
+    Audit(Counts),
     /// A request broke a rule.
     Refused(Refusal),
     /// The keeper failed.
@@ -53,6 +55,7 @@ fn reply_line(reply: &Reply) -> LineBuffer
     match reply {
         Reply::Answer(answer) => push_answer(&mut line, answer),
         Reply::Mail(answer) => push_mail_answer(&mut line, answer),
+        Reply::Audit(counts) => push_counts(&mut line, counts),
         Reply::Refused(refusal) => push_refusal(&mut line, *refusal),
         Reply::KeeperFault => line.push_str("fault keeper"),
         Reply::OutOfMemory => line.push_str("out of memory"),
@@ -109,6 +112,34 @@ fn push_mail_answer(line: &mut LineBuffer, answer: &MailAnswer)
         }
         MailAnswer::NotDue(None) => line.push_str("not due -"),
     }
+}
+
+#[tactic(auto, unfolding(crate::specs::Words::account_words))]
+fn push_accounts(line: &mut LineBuffer, counts: &Counts)
+    requires { length line.old.bytes ≤ 100 }
+    ensures bytes { line.new.bytes ≡ line.old.bytes ++ account_words counts.now }
+    ensures length { length line.new.bytes ≤ length line.old.bytes + 214 }
+{
+    push_count(line, "flight=", counts.flight);
+    push_count(line, " held=", counts.held);
+    push_count(line, " ready=", counts.ready);
+    push_count(line, " handed=", counts.handed);
+    push_count(line, " read=", counts.read);
+    push_count(line, " deleted=", counts.deleted);
+    push_count(line, " off=", counts.off);
+    push_count(line, " live=", counts.live);
+}
+
+fn push_counts(line: &mut LineBuffer, counts: &Counts)
+    requires { length line.old.bytes ≤ 10 }
+    ensures bytes { line.new.bytes ≡ line.old.bytes ++ count_words counts.now }
+    ensures length { length line.new.bytes ≤ length line.old.bytes + 310 }
+{
+    line.push_str("audit ");
+    push_accounts(line, counts);
+    push_count(line, " entries=", counts.entries);
+    push_count(line, " waiting=", counts.waiting);
+    push_count(line, " written=", counts.written);
 }
 
 fn push_refusal(line: &mut LineBuffer, refusal: Refusal)

@@ -65,12 +65,23 @@ fn expect_play<R: Abort + AllocGlobal>(
 #[test]
 fn an_idle_user_is_mailed_after_the_period(rt: HostRuntime) -> Result<(), Fail> {
     let alloc = rt.alloc();
-    let rest = "at 219\nmail\nat 220\nmail\nmail\n";
+    let rest = "audit\nat 219\nmail\nat 220\nmail\nmail\naudit\n";
     let script = format!(in alloc; "{OPENING}{MENTION}{rest}")?;
-    let answers = "sent 1 deal 0\nnot due 220\nmailed 2 entries=1 dropped=0\nnot due -\n";
-    let written = format!(in alloc; "{OPENED}{answers}")?;
+    let ready =
+        "audit flight=0 held=0 ready=2 handed=0 read=0 deleted=0 off=0 live=0 entries=0 waiting=0 written=0\n";
+    let mailed = "not due 220\nmailed 2 entries=1 dropped=0\nnot due -\n";
+    let handed =
+        "audit flight=0 held=0 ready=1 handed=1 read=0 deleted=0 off=0 live=0 entries=1 waiting=0 written=0\n";
+    let written = format!(in alloc; "{OPENED}sent 1 deal 0\n{ready}{mailed}{handed}")?;
     expect_play(&rt, script.as_str(), 4_096, &NEVER, written.as_str(), 0)?;
     expect_play(&rt, script.as_str(), 1, &NEVER, written.as_str(), 0)
+}
+
+#[test]
+fn nothing_is_counted_at_first(rt: HostRuntime) -> Result<(), Fail> {
+    let zeros =
+        "audit flight=0 held=0 ready=0 handed=0 read=0 deleted=0 off=0 live=0 entries=0 waiting=0 written=0\n";
+    expect_play(&rt, "audit", 4_096, &NEVER, zeros, 0)
 }
 
 // The start makes the first two calls of the keeper.
@@ -179,6 +190,6 @@ fn a_keeper_that_keeps_something_is_not_started_over(rt: HostRuntime) -> Result<
         &mut spool,
     );
     assert_eq!(rt; again.status, 8);
-    assert_eq!(rt; sink.bytes(), b"not empty\n");
+    assert_eq!(rt; sink.bytes(), b"not empty\n".as_slice());
     Ok(())
 }

@@ -1,6 +1,6 @@
 //! Each public call once, with ample memory, and worked values.
 use super::*;
-use chat_model::{Answer, ChannelId, DealNo, List, MessageId, Refusal, Request, UserId};
+use chat_model::{Answer, ChannelId, Counts, DealNo, Failed, List, MessageId, Refusal, Request, UserId};
 use office::MailAnswer;
 use std::process::Abort;
 use std::test::Fail;
@@ -84,11 +84,51 @@ fn replies_have_their_texts(rt: HostRuntime) -> Result<(), Fail> {
     expect_text(&rt, Reply::OutOfMemory, "out of memory\n")
 }
 
+#[test]
+fn counts_have_their_texts(rt: HostRuntime) -> Result<(), Fail> {
+    let none = Counts {
+        flight: 0,
+        held: 0,
+        ready: 0,
+        handed: 0,
+        read: 0,
+        deleted: 0,
+        off: 0,
+        live: 0,
+        entries: 0,
+        waiting: 0,
+        written: 0,
+    };
+    expect_text(
+        &rt,
+        Reply::Audit(none),
+        "audit flight=0 held=0 ready=0 handed=0 read=0 deleted=0 off=0 live=0 entries=0 waiting=0 written=0\n",
+    )?;
+    let many = Counts {
+        flight: u64::MAX,
+        held: 1,
+        ready: 4,
+        handed: 6,
+        read: 3,
+        deleted: 7,
+        off: 8,
+        live: 2,
+        entries: 5,
+        waiting: 9,
+        written: 10,
+    };
+    expect_text(
+        &rt,
+        Reply::Audit(many),
+        "audit flight=18446744073709551615 held=1 ready=4 handed=6 read=3 deleted=7 off=8 live=2 entries=5 waiting=9 written=10\n",
+    )
+}
+
 // The reply has this text, printed and written.
 fn expect_text<R: Abort + AllocGlobal>(rt: &R, reply: Reply, text: &str) -> Result<(), Fail> {
     let printed = print_reply(rt.alloc(), &reply)?;
     assert_eq!(rt; printed.as_str(), text);
-    let mut sink = MemorySink::new(rt.alloc(), 256, List::new(rt.alloc()))?;
+    let mut sink = MemorySink::new(rt.alloc(), 320, List::new(rt.alloc()))?;
     assert_eq!(rt; write_reply(&mut sink, &reply), Ok(()));
     assert_eq!(rt; sink.bytes(), text.as_bytes());
     Ok(())
@@ -123,7 +163,7 @@ fn bad_lines_have_their_columns(rt: HostRuntime) -> Result<(), Fail> {
     expect_bad(&rt, b"user \"\xff\"\n", 7);
     expect_bad(&rt, b"sub 1 2 yes\n", 9);
     expect_bad(&rt, b"send 1 1 \"a\" \"`x`\"\n", 14);
-    expect_bad(&rt, b"audit\n", 1);
+    expect_bad(&rt, b"audit now\n", 7);
     Ok(())
 }
 
@@ -140,6 +180,7 @@ fn lines_are_read(rt: HostRuntime) -> Result<(), Fail> {
     assert!(rt; matches!(&read_line(alloc, b"  \r\n"), Ok(Line::Nothing)));
     assert!(rt; matches!(&read_line(alloc, b"# audit\n"), Ok(Line::Nothing)));
     assert!(rt; matches!(&read_line(alloc, b" mail "), Ok(Line::Mail)));
+    assert!(rt; matches!(&read_line(alloc, b"audit\n"), Ok(Line::Audit)));
     Ok(())
 }
 

@@ -3,6 +3,7 @@ use Rattle.std.proofs.Common.{◌≡◌, ℕ, zero, suc, ◌+◌, Bool, true, fa
 use Rattle.std.specs.Prelude.{Option, Some, None, option_map, is_some, unwrap_or, filter, find, slice_get}
 use Rattle.std.specs.Option.{option_map_or}
 use Rattle.std.specs.List.{reduce, filter_map, cons_option, range_with_len, AllByRecursion}
+use Rattle.std.proofs.lemmas.List.{length-map}
 use Rattle.chat_model.specs.declared.event.Stamped.{Stamped}
 use Rattle.chat_model.specs.declared.ids.UserId.{UserId}
 use Rattle.chat_model.specs.declared.ids.ChannelId.{ChannelId}
@@ -13,11 +14,13 @@ use Rattle.notice_ledger.specs.Values.{numbered, Person, people, named_from, use
 use Rattle.notice_ledger.specs.Owed.{waiting}
 use Rattle.notice_ledger.specs.Due.{DueUser, due, due_user, first_due, sooner}
 use Rattle.notice_ledger.specs.Lawful.{refusal}
+use Rattle.notice_ledger.specs.Audit.{counts_of}
 use Rattle.notice_ledger.proofs.Batches.{is_mail_of, due-waiting}
+use Rattle.notice_ledger.proofs.Audited.{counts_of-waiting}
 use Rattle.office.specs.declared.tables.Channel.{Channel}
 use Rattle.office.specs.declared.tables.Waiting.{Waiting}
 use Rattle.office.specs.declared.tables.Tables.{Tables}
-use Rattle.office.specs.Tables.{StandsFor, notice_kept, has_user, has_channel, refusal_in, is_mail_to, due_in, due_user_in, first_due_in, name_in, channel_name_in}
+use Rattle.office.specs.Tables.{StandsFor, notice_kept, has_user, has_channel, refusal_in, is_mail_to, due_in, due_user_in, first_due_in, name_in, channel_name_in, counted, counts_in}
 
 -- ---- lists
 
@@ -131,3 +134,9 @@ module _ (t : Tables) (j : List Stamped) (stands : StandsFor t j) where
   first_due_in-first_due =
       ap (reduce sooner) (filter_map-same (due_user_in t) (λ name. due_user j name.id) (λ name. ap (option_map (λ d. let u : DueUser = record { due = d; user = name.id } in u)) (due_in-due name.id)) t.names.items
       ∙ (sym (filter_map-map (due_user j) (λ (n : UserName). n.id) t.names.items) ∙ ap (filter_map (due_user j)) (ap (map (λ (n : UserName). n.id)) stands.names ∙ ids-user_names j)))
+
+  pub counts_in-counts_of : counts_in t ≡ counts_of j
+  counts_in-counts_of =
+      ap (λ ws. counted (length ws) (length t.outbox.items)) stands.waiting
+      ∙ (ap (λ k. counted k (length t.outbox.items)) (length-map (waiting j) notice_kept)
+      ∙ (ap (λ es. counted (length (waiting j)) (length es)) stands.outbox ∙ sym (counts_of-waiting j)))

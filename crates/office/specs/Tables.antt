@@ -3,6 +3,7 @@ use Rattle.std.specs.Prelude.{◌≡◌, ℕ, ◌+◌, Bool, false, ◌&&◌, �
 use Rattle.std.specs.Option.{option_map_or}
 use Rattle.std.specs.List.{list_any, filter_map, reduce}
 use Rattle.chat_model.specs.declared.event.Stamped.{Stamped}
+use Rattle.chat_model.specs.declared.counts.Counts.{Counts}
 use Rattle.chat_model.specs.declared.entry.Entry.{Entry}
 use Rattle.chat_model.specs.declared.entry.Entry.TheVariants as entry
 use Rattle.chat_model.specs.declared.entry.Conversation.TheVariants as conversation
@@ -20,6 +21,7 @@ use Rattle.notice_ledger.specs.Values.{numbered, SentMessage, people, user_names
 use Rattle.notice_ledger.specs.Owed.{Notice, waiting, same_way}
 use Rattle.notice_ledger.specs.Due.{DueUser, sooner}
 use Rattle.notice_ledger.specs.Outbox.{outbox}
+use Rattle.notice_ledger.specs.Audit.{in_64_bits}
 use Rattle.office.specs.declared.tables.Channel.{Channel}
 use Rattle.office.specs.declared.tables.Message.{Message}
 use Rattle.office.specs.declared.tables.Waiting.{Waiting}
@@ -122,3 +124,23 @@ answer_in t (request.AddUser name bot) = answer.User (record { 0 = length t.name
 answer_in t (request.AddChannel name) = answer.Channel (record { 0 = length t.channels.items + 1 })
 answer_in t (request.Subscribe user channel on) = answer.Done
 answer_in t (request.Send sender channel topic text) = answer.Sent (record { 0 = length t.messages.items + 1 }) (record { 0 = length t.messages.items })
+
+-- the counts where so many notices wait and the outbox has so many entries, each of one handed notice
+abbrev pub counted : ℕ → ℕ → Counts
+counted waiting entries = record {
+  flight = 0;
+  held = 0;
+  ready = in_64_bits waiting;
+  handed = in_64_bits entries;
+  read = 0;
+  deleted = 0;
+  off = 0;
+  live = 0;
+  entries = in_64_bits entries;
+  waiting = 0;
+  written = 0;
+}
+
+-- the counts that the tables give
+abbrev pub counts_in : Tables → Counts
+counts_in t = counted (length t.waiting.items) (length t.outbox.items)

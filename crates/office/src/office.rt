@@ -9,7 +9,7 @@ ghost use Rattle.office.specs.Office.{IsOffice, KeptStandsFor};
 
 use crate::tables::{DueUser, Tables};
 use crate::{AskFault, MailAnswer, StartFault, StepFault};
-use chat_model::{Answer, Event, Moment, Refusal, Request, Stamped, UserId};
+use chat_model::{Answer, Counts, Event, Moment, Refusal, Request, Stamped, UserId};
 use keeper::Keeper;
 use std::alloc::Global;
 use std::marker::Model;
@@ -63,6 +63,7 @@ impl<K: Keeper> Office<K> {
     ghost use Rattle.office.specs.Tables.{found_due};
     ghost use Rattle.notice_ledger.specs.Due.{first_due, batch_rows};
     ghost use Rattle.notice_ledger.specs.Outbox.{outbox};
+    ghost use Rattle.notice_ledger.specs.Audit.{counts_of};
 
     /// Loads what is kept, which has to be empty, and keeps the first event, a restart. Each fault hands the keeper
     /// back.
@@ -113,6 +114,13 @@ impl<K: Keeper> Office<K> {
         ensures { result.now ≡ self.now.journal }
     {
         &self.journal
+    }
+
+    /// How many owed notices stand where, and how many entries the outbox has.
+    pub fn audit(&self) -> Counts
+        ensures { result ≡ counts_of self.now.journal }
+    {
+        self.tables.counts()
     }
 
     /// The stamp of what is asked at a moment: the greater of the moment and the last stamp.

@@ -7,8 +7,8 @@ ghost use Rattle.office.specs.Tables.{is_mail_to, found_due};
 ghost use Rattle.notice_ledger.specs.Due.{sooner};
 
 use chat_model::{
-    Answer, ChannelId, Conversation, DealNo, Entry, Item, List, MessageId, Moment, OutOfMemory,
-    Refusal, Request, Text, Trigger, UserId, UserName, Way,
+    Answer, ChannelId, Conversation, Counts, DealNo, Entry, Item, List, MessageId, Moment,
+    OutOfMemory, Refusal, Request, Text, Trigger, UserId, UserName, Way,
 };
 use std::alloc::Global;
 
@@ -120,7 +120,7 @@ fn first_mail(waiting: &[Waiting], user: UserId) -> Option<&Waiting>
 }
 
 impl Tables {
-    ghost use Rattle.office.specs.Tables.{StandsFor, has_user, has_channel, is_subscriber, refusal_in, name_in, channel_name_in, due_in, first_due_in, entry_from, entries_in, answer_in};
+    ghost use Rattle.office.specs.Tables.{StandsFor, has_user, has_channel, is_subscriber, refusal_in, name_in, channel_name_in, due_in, first_due_in, entry_from, entries_in, answer_in, counts_in};
 
     /// The tables of the empty journal.
     pub fn new(alloc: Global) -> Tables
@@ -301,5 +301,26 @@ impl Tables {
             .iter()
             .filter(|notice| notice.is_mail_to(user))
             .count()
+    }
+
+    /// How many owed notices stand where, and how many entries the outbox has.
+    pub fn counts(&self) -> Counts
+        ensures { result ≡ counts_in self.now }
+    {
+        let entries = self.outbox.len() as u64;
+        Counts {
+            flight: 0,
+            held: 0,
+            ready: self.waiting.len() as u64,
+            // Each entry has one item.
+            handed: entries,
+            read: 0,
+            deleted: 0,
+            off: 0,
+            live: 0,
+            entries,
+            waiting: 0,
+            written: 0,
+        }
     }
 }

@@ -1,7 +1,7 @@
 //! The office with ample memory, over a keeper in memory.
 use crate::{AskFault, MailAnswer, Office, StartFault, StepFault};
 use chat_model::{
-    Answer, ChannelId, DealNo, List, MessageId, Moment, Refusal, Request, Text, UserId,
+    Answer, ChannelId, Counts, DealNo, List, MessageId, Moment, Refusal, Request, Text, UserId,
 };
 use keeper::{Keeper, MemoryKeeper};
 use std::alloc::Global;
@@ -53,14 +53,33 @@ fn team(rt: &impl Abort, alloc: Global, failing: List<u64>) -> Result<Office<Mem
     Ok(office)
 }
 
+// So many notices are ready, and so many were handed, each in an entry of its own.
+fn counts(ready: u64, handed: u64) -> Counts {
+    Counts {
+        flight: 0,
+        held: 0,
+        ready,
+        handed,
+        read: 0,
+        deleted: 0,
+        off: 0,
+        live: 0,
+        entries: handed,
+        waiting: 0,
+        written: 0,
+    }
+}
+
 #[test]
 fn a_mention_is_mailed_after_the_period(rt: HostRuntime) -> Result<(), Fail> {
     let alloc = rt.alloc();
     let mut office = team(&rt, alloc, List::new(alloc))?;
+    assert_eq!(rt; office.audit(), counts(0, 0));
     let sent = office.ask(send(alloc, 1, 1)?, moment(&rt, 100));
     let message = MessageId(1);
     let deal = DealNo(0);
     assert_eq!(rt; sent, Ok(Answer::Sent { message, deal }));
+    assert_eq!(rt; office.audit(), counts(2, 0));
     let early = office.mail_turn(moment(&rt, 219));
     assert_eq!(rt; early, Ok(MailAnswer::NotDue(Some(220))));
     let due = office.mail_turn(moment(&rt, 220));
@@ -72,6 +91,7 @@ fn a_mention_is_mailed_after_the_period(rt: HostRuntime) -> Result<(), Fail> {
     assert_eq!(rt; due, Ok(mailed));
     let late = office.mail_turn(moment(&rt, 220));
     assert_eq!(rt; late, Ok(MailAnswer::NotDue(None)));
+    assert_eq!(rt; office.audit(), counts(1, 1));
     assert_eq!(rt; office.journal().len(), 8);
     let mut keeper = office.close();
     let Ok(kept) = keeper.load() else {
