@@ -8,3 +8,4 @@ pub mod PlayLemmas
 pub mod CutLemmas
 pub mod CountLemmas
 pub mod GaveLemmas
+pub mod KeptLemmas

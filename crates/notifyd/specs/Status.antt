@@ -2,6 +2,7 @@
 use Rattle.std.specs.Prelude.{◌≡◌, ℕ, ◌==◌, Bool, false, List, [], ◌∷◌, Option, IfSome, IsTrue, bytes_eq, codes}
 use Rattle.std.specs.List.{list_any}
 use Rattle.keeper.specs.declared.keeper.Kept.{Kept}
+use Rattle.notice_ledger.specs.Conserved.{IsConserved}
 use Rattle.notice_ledger.specs.Rows.{rows}
 
 -- the words are the one command that there is
@@ -30,3 +31,7 @@ KeptIsEmpty told = IfSome told (λ kept. (kept.journal ≡ []) × (kept.rows ≡
 -- the kept rows are the rows of the kept journal, where the keeper tells
 abbrev pub KeptIsConsistent : Option Kept → Type 0
 KeptIsConsistent told = IfSome told (λ kept. kept.rows ≡ rows kept.journal)
+
+-- each notice of the kept journal is conserved by the kept rows, where the keeper tells
+abbrev pub KeptIsConserved : Option Kept → Type 0
+KeptIsConserved told = IfSome told (λ kept. IsConserved kept.journal kept.rows)

@@ -3,7 +3,7 @@ ghost use Rattle.std.specs.Prelude.{◌≡◌, ◌≢◌, ℕ, ◌+◌, ◌<◌,
 ghost use Rattle.std.specs.Vec.{vec_capacity};
 ghost use Rattle.chat_model.specs.Counts.{HasRisen};
 ghost use Rattle.notifyd.specs.Cut.{GaveMore, GaveBadLine, uncut};
-ghost use Rattle.notifyd.specs.Status.{is_play, IsAmong, statuses, play_statuses, KeptIsEmpty, KeptIsConsistent};
+ghost use Rattle.notifyd.specs.Status.{is_play, IsAmong, statuses, play_statuses, KeptIsEmpty, KeptIsConsistent, KeptIsConserved};
 
 use crate::last_line::{LastLine, write_last_line};
 use crate::line::MAX_LINE;
@@ -146,6 +146,7 @@ fn play_script<S: Source, O: Sink, K: Keeper>(
     ensures too_long { result.status ≡ 9 → GaveMore MAX_SCRIPT (S.remaining source.old) (S.remaining source.new) }
     ensures was_empty { IsAmong play_statuses result.status → KeptIsEmpty (K.kept keeper) }
     ensures consistent { KeptIsConsistent (K.kept keeper) → KeptIsConsistent (K.kept result.keeper) }
+    ensures conserved { KeptIsEmpty (K.kept keeper) ⊎ KeptIsConserved (K.kept keeper) → KeptIsConserved (K.kept result.keeper) }
     ensures source_count { S.faults source.old ≤ S.faults source.new }
     ensures sink_count { O.faults out.old ≤ O.faults out.new }
     ensures keeper_count { K.faults keeper ≤ K.faults result.keeper }
@@ -195,6 +196,7 @@ pub fn run<S: Source, O: Sink, K: Keeper, P: Spool>(
     ensures too_long { result.status ≡ 9 → GaveMore MAX_SCRIPT (S.remaining source.old) (S.remaining source.new) }
     ensures was_empty { IsAmong play_statuses result.status → KeptIsEmpty (K.kept keeper) }
     ensures consistent { KeptIsConsistent (K.kept keeper) → KeptIsConsistent (K.kept result.keeper) }
+    ensures conserved { KeptIsEmpty (K.kept keeper) ⊎ KeptIsConserved (K.kept keeper) → KeptIsConserved (K.kept result.keeper) }
     ensures source_count { S.faults source.old ≤ S.faults source.new }
     ensures sink_count { O.faults out.old ≤ O.faults out.new }
     ensures keeper_count { K.faults keeper ≤ K.faults result.keeper }

@@ -1,6 +1,6 @@
 -- No notice is lost and none is doubled in the rows of a lawful journal.
 use Rattle.std.proofs.Common.{◌≡◌, ◌≢◌, ℕ, ◌+◌, ◌<◌, Bool, true, false, ◌&&◌, ◌==◌, cond, List, [], ◌∷◌, ◌++◌, Some, None, map, refl, sym, ap, ◌∙◌, subst, arith}
-use Rattle.std.specs.Prelude.{sum_by, count_by, if◌then◌else◌}
+use Rattle.std.specs.Prelude.{sum_by, count_by, if◌then◌else◌, Option, None, IfSome}
 use Rattle.std.specs.declared.cmp.Ordering.{Ordering}
 use Rattle.std.specs.declared.cmp.Ordering.TheVariants.{Less, Equal, Greater}
 use Rattle.std.specs.Ordering.{is_eq, is_lt, is_gt}
@@ -21,6 +21,7 @@ use Rattle.chat_model.specs.declared.row.RowChange.TheVariants.{Put}
 use Rattle.chat_model.specs.Rows.{key_cmp, key_of, row_at, rows_below, rows_above, changed, changed_all}
 use Rattle.chat_model.proofs.Keys.{same_key, users_ascend, messages_ascend, outbox_ascends}
 use Rattle.chat_model.proofs.Rows.{row_at-changed}
+use Rattle.keeper.specs.declared.keeper.Kept.{Kept}
 use Rattle.notice_ledger.specs.declared.account.Account.TheVariants.{NotOwed}
 use Rattle.notice_ledger.specs.Values.{Person, people, SentMessage, messages}
 use Rattle.notice_ledger.specs.Owed.{Notice, is_of, same_way, account, is_cancelled, waiting}
@@ -33,8 +34,10 @@ use Rattle.notice_ledger.proofs.Batches.{pending_rows-waiting}
 use Rattle.notice_ledger.proofs.Sums.{sum_by-map}
 use Rattle.notice_ledger.proofs.Apart.{Pairwise, Pairwise-append, Pairwise-map, Pairwise-weaker, AllByRecursion-from_all, Differ, waiting-apart}
 use Rattle.notice_ledger.proofs.Places.{places-owed, places-not_owed}
+use Rattle.notice_ledger.proofs.LawfulLemmas.{IsLawful-nil}
 use Rattle.office.specs.Changes.{notice_key}
-use Rattle.office.proofs.RowsAfter.{table, AreOf, equal_from, other_key, users_are, messages_are, waiting_are, outbox_are}
+use Rattle.office.specs.Office.{KeptStandsFor}
+use Rattle.office.proofs.RowsAfter.{rows-nil, table, AreOf, equal_from, other_key, users_are, messages_are, waiting_are, outbox_are}
 
 -- ---- rows that are put one after another
 
@@ -237,3 +240,12 @@ rows-conserved j is_lawful = record {
   owed = λ u m w. subst (λ (k : List Stamped). account k u m w ≢ NotOwed → places_of u m w (rows j) + (if is_cancelled (account k u m w) then 1 else 0) ≡ 1) (sym is_lawful) (owed_rows u m w j);
   not_owed = λ u m w. subst (λ (k : List Stamped). account k u m w ≡ NotOwed → places_of u m w (rows j) ≡ 0) (sym is_lawful) (not_owed_rows u m w j);
 }
+
+-- what stands for a lawful journal conserves its notices
+pub kept-conserved : (told : Option Kept) (j : List Stamped) → IsLawful j → IfSome told (KeptStandsFor j) → IfSome told (λ kept. IsConserved kept.journal kept.rows)
+kept-conserved None j is_lawful h = tt
+kept-conserved (Some kept) j is_lawful h = rw (h.0, h.1) (rows-conserved j is_lawful)
+
+-- nothing conserves no notices
+pub nothing-conserved : IsConserved [] []
+nothing-conserved = subst (λ (rs : List Row). IsConserved [] rs) rows-nil (rows-conserved [] IsLawful-nil)

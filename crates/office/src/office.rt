@@ -5,6 +5,7 @@ ghost use Rattle.chat_model.specs.declared.event.Event.TheVariants.{Restart, Ask
 ghost use Rattle.chat_model.specs.declared.request.Refusal.{Refusal};
 ghost use Rattle.notice_ledger.specs.Journal.{stamp, last_stamp};
 ghost use Rattle.notice_ledger.specs.Lawful.{IsLawful, refusal, is_lawful_after};
+ghost use Rattle.notice_ledger.specs.Conserved.{IsConserved};
 ghost use Rattle.office.specs.Office.{IsOffice, KeptStandsFor};
 
 use crate::tables::{DueUser, Tables};
@@ -105,6 +106,7 @@ impl<K: Keeper> Office<K> {
         ensures keeper { result ≡ self.keeper }
         ensures lawful { IsLawful self.journal }
         ensures kept { IfSome (K.kept result) (KeptStandsFor self.journal) }
+        ensures conserved { IfSome (K.kept result) (λ kept. IsConserved kept.journal kept.rows) }
     {
         self.keeper
     }
