@@ -1,6 +1,8 @@
 //! Each public call once, with ample memory, and worked values.
 use super::*;
-use chat_model::{Answer, ChannelId, Counts, DealNo, Failed, List, MessageId, Refusal, Request, UserId};
+use chat_model::{
+    Answer, ChannelId, Counts, DealNo, Failed, List, MessageId, Refusal, Request, UserId,
+};
 use office::MailAnswer;
 use std::process::Abort;
 use std::test::Fail;
