@@ -5,7 +5,7 @@ use Rattle.notifyd.proofs.script.play_next.Goals as goal
 
 pub returns-then-count-eq0-clause-bad : goal.returns-then-count-eq0-clause-bad
 returns-then-count-eq0-clause-bad g c = λ number column e bytes tells cut at.
-    GaveBadLine-ended _ _ _ _ _ _ _ c.if-count-eq0.true
+    GaveBadLine-ended _ _ _ _ _ _ _ _ _ c.if-count-eq0.true
     (told _ _ (λ rest. GivesNext c.in-Ok.count rest c.read.new.into) tells c.in-Ok.ensures.given)
     (c.in-Ok.ensures.taken ∙ ap (option_map (drop c.in-Ok.count)) tells)
     (c.play_last.ensures.bad number column (cc e) cut (record { complete = at.complete; behind = at.behind ∙ sym c.as_slice.ensures.value }))
@@ -13,7 +13,7 @@ returns-then-count-eq0-clause-bad g c = λ number column e bytes tells cut at.
 pub returns-in-Err-clause-bad : goal.returns-in-Err-clause-bad
 returns-in-Err-clause-bad g c = λ number column e bytes tells cut at.
     let short : c.min-within.result ≤ c.in-Ok.count = omega (arith, c.min-within.ensures) in
-    GaveBadLine-within _ _ c.read.new.into _ c.in-Ok.count c.min-within.result _ _ short
+    GaveBadLine-within _ _ _ _ c.read.new.into _ c.in-Ok.count c.min-within.result _ _ short
     (told _ _ (λ rest. GivesNext c.in-Ok.count rest c.read.new.into) tells c.in-Ok.ensures.given)
     (c.in-Ok.ensures.taken ∙ ap (option_map (drop c.in-Ok.count)) tells)
     (c.in-Err.ensures.bad number column (cc e) cut at)
