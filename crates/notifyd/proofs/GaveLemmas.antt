@@ -7,7 +7,7 @@ use Rattle.notifyd.specs.Device.{GivesNext}
 use Rattle.std.proofs.lemmas.List.{append-nil}
 use Rattle.notifyd.specs.Cut.{Cut, IsCutAt, GaveBytes, GaveMore, uncut, cut_on, cut_of, all_lines, last_line}
 use Rattle.notifyd.specs.Play.{Standing, AnswersLines}
-use Rattle.notifyd.specs.Answered.{AnswersRest, StopsAt, GaveBadLine}
+use Rattle.notifyd.specs.Answered.{AnswersRest, StopsAt, GaveBadLine, GaveLines}
 use Rattle.notifyd.proofs.CutLemmas.{cut_on-append}
 use Rattle.notifyd.proofs.AnswerLemmas.{AnswersRest-then, AnswersRest-all, StopsAt-then, StopsAt-on, StopsAt-front}
 
@@ -86,6 +86,18 @@ GaveBadLine-within a b cut bytes piece after count within number column h given 
       StopsAt-front a b cut.lines _ (last_line (cut_on cut (take count bytes)).rest) number column all;
 }
 
+-- the lines that are complete within what is allowed
+pub AnswersRest-allowed : (a b : Standing) (cut : Cut) (bytes piece : List ℕ) (count within allowed : ℕ) → within ≡ allowed → within ≤ count → GivesNext count bytes piece → AnswersRest cut.lines (cut_on cut (take within piece)).lines a b → AnswersRest cut.lines (cut_on cut (take allowed bytes)).lines a b
+AnswersRest-allowed a b cut bytes piece count within allowed is h given p =
+    let P : List ℕ → Type 0 = λ front. AnswersRest cut.lines (cut_on cut front).lines a b in
+    let same : take within piece ≡ take within bytes = sym (take-take within count piece h) ∙ ap (take within) given.bytes ∙ take-take within count bytes h in
+    subst P (same ∙ ap (λ n. take n bytes) is) p
+
+-- a read at the end of the input leaves what there is
+pub told_still : (count : ℕ) (before after : Option (List ℕ)) → count ≡ 0 → after ≡ option_map (drop count) before → after ≡ before
+told_still count None after none left = left
+told_still count (Some bytes) after none left = left ∙ ap (λ n. option_map (drop n) (Some bytes)) none
+
 -- the lines of one read after another
 pub AnswersRest-reads : (a b c : Standing) (m n : ℕ) (bytes : List ℕ) → AnswersRest [] (cut_of (take m bytes)).lines a b → AnswersRest (cut_of (take m bytes)).lines (cut_on (cut_of (take m bytes)) (take n (drop m bytes))).lines b c → AnswersRest [] (cut_of (take (m + n) bytes)).lines a c
 AnswersRest-reads a b c m n bytes p q =
@@ -98,3 +110,20 @@ AnswersLines-ended a b c m bytes none p q =
     let P : List ℕ → Type 0 = λ all. AnswersLines a (all_lines (cut_of all)) c in
     let whole : take m bytes ≡ bytes = sym (append-nil (take m bytes)) ∙ ap (λ rest. take m bytes ++ rest) (sym none) ∙ take-append-drop m bytes in
     subst P whole (AnswersRest-all a c _ (AnswersRest-then a b c _ _ _ p q))
+
+-- the lines that are complete within all that is allowed
+pub AnswersLines-allowed : (a b c : Standing) (m n most : ℕ) (bytes : List ℕ) → m + n ≡ most → AnswersRest [] (cut_of (take m bytes)).lines a b → AnswersRest (cut_of (take m bytes)).lines (cut_on (cut_of (take m bytes)) (take n (drop m bytes))).lines b c → AnswersLines a (cut_of (take most bytes)).lines c
+AnswersLines-allowed a b c m n most bytes is p q =
+    let P : ℕ → Type 0 = λ k. AnswersLines a (cut_of (take k bytes)).lines c in
+    subst P is (AnswersRest-all a c _ (AnswersRest-reads a b c m n bytes p q))
+
+-- the lines that were complete when the source failed
+pub GaveLines-fault : (a b c : Standing) (m : ℕ) (bytes : List ℕ) (before now after : Option (List ℕ)) → before ≡ Some bytes → GaveBytes m before now → after ≡ now → AnswersRest [] (cut_of (take m bytes)).lines a b → c ≡ b → GaveLines bytes after a c
+GaveLines-fault a b c m bytes before now after tells gave same p stays = record {
+  count = m;
+  gave =
+      let P : Option (List ℕ) → Type 0 = λ it. GaveBytes m it now in
+      let Q : Option (List ℕ) → Type 0 = λ it. GaveBytes m (Some bytes) it in
+      subst Q (sym same) (subst P tells gave);
+  answered = let R : Standing → Type 0 = λ it. AnswersLines a (cut_of (take m bytes)).lines it in subst R (sym stays) (AnswersRest-all a b _ p);
+}

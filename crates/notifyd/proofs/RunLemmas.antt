@@ -1,18 +1,19 @@
 -- A run, from what its play answered.
-use Rattle.std.proofs.Common.{◌≡◌, ℕ, ◌-◌, ◌≤◌, Bool, false, List, [], ◌++◌, take, Option, Some, None, refl, ap, ◌∙◌, subst, append_assoc, arith, ◌||◌, inl, inr, ◌⊎◌}
+use Rattle.std.proofs.Common.{◌≡◌, ◌≢◌, sym, ℕ, ◌-◌, ◌≤◌, Bool, false, List, [], ◌++◌, take, Option, Some, None, refl, ap, ◌∙◌, subst, append_assoc, arith, ◌||◌, inl, inr, ◌⊎◌}
 use Rattle.std.specs.Prelude.{IfSome, option_map}
 use Rattle.std.specs.List.{list_any, flat_map}
 use Rattle.chat_model.specs.Counts.{HasRisen}
 use Rattle.office.specs.Office.{KeptStandsFor}
 use Rattle.notifyd.specs.declared.reply.Reply.TheVariants.{KeeperFault, OutOfMemory}
-use Rattle.notifyd.specs.declared.last_line.LastLine.TheVariants.{BadLine}
+use Rattle.notifyd.specs.declared.last_line.LastLine.{LastLine}
+use Rattle.notifyd.specs.declared.last_line.LastLine.TheVariants.{BadLine, SourceFault}
 use Rattle.notifyd.specs.Reply.{reply_text}
 use Rattle.notifyd.specs.LastLine.{last_line_text}
 use Rattle.notifyd.specs.Cut.{uncut, cut_of, all_lines}
 use Rattle.notifyd.specs.Play.{World, Standing, PlaysLines, AnswersLines, answer_text, is_keeper_fault}
-use Rattle.notifyd.specs.Answered.{GaveBadLine}
+use Rattle.notifyd.specs.Answered.{GaveBadLine, GaveLines}
 use Rattle.notifyd.specs.Status.{status_met}
-use Rattle.notifyd.specs.Run.{Told, started, Wrote, IsPlayOf, PlayedToEnd, PlayedToBadLine, StartFailed}
+use Rattle.notifyd.specs.Run.{Told, started, Wrote, IsPlayOf, PlayedToEnd, PlayedToBadLine, PlayedComplete, PlayedToFault, StartFailed, PlayedAs}
 use Rattle.notifyd.proofs.AnswerLemmas.{AnswersRest-all}
 
 -- a play stands where a start leaves it
@@ -40,7 +41,7 @@ met_after : (before after any : Bool) → before ≡ false → after ≡ (before
 met_after before after any fresh e = e ∙ ap (λ b. b || any) fresh
 
 -- the end of a play that came to the end of its input
-pub PlayedToEnd-from : (before now : Told) (a b : Standing) (bytes : List ℕ) (left : Option (List ℕ)) (status : ℕ) → IsFresh before a → IsClosed b now → AnswersLines a (all_lines (cut_of bytes)) b → now.written ≡ b.written → IfSome left (λ rest. rest ≡ []) → status ≡ status_met b.met.keeper_fault b.met.out_of_memory → PlayedToEnd bytes before left status now
+pub PlayedToEnd-from : (before now : Told) (a b : Standing) (bytes : List ℕ) (left : Option (List ℕ)) (status : ℕ) → IsFresh before a → IsClosed b now → AnswersLines a (all_lines (cut_of bytes)) b → now.written ≡ b.written → left ≡ Some [] → status ≡ status_met b.met.keeper_fault b.met.out_of_memory → PlayedToEnd bytes before left status now
 PlayedToEnd-from before now a b bytes left status fresh closed p written none is = record {
   replies = p.replies;
   play = play_of before now a b (all_lines (cut_of bytes)) fresh closed p;
@@ -69,8 +70,24 @@ PlayedToBadLine-from before now a b bytes left number column fresh closed p writ
       written = written ∙ ap (option_map (λ done. done ++ last_line_text (BadLine number column))) (answered.written ∙ ap (option_map (λ done. done ++ flat_map answer_text answered.replies)) fresh.written) ∙ and_then before.written (flat_map answer_text answered.replies) (last_line_text (BadLine number column));
     }
 
+-- the end of a play that ended between two lines
+pub PlayedComplete-from : (before now : Told) (a b : Standing) (taken : List ℕ) (last : LastLine) → IsFresh before a → IsClosed b now → AnswersLines a (cut_of taken).lines b → now.written ≡ option_map (λ done. done ++ last_line_text last) b.written → PlayedComplete taken last before now
+PlayedComplete-from before now a b taken last fresh closed p written = record {
+  replies = p.replies;
+  play = play_of before now a b (cut_of taken).lines fresh closed p;
+  written = written ∙ ap (option_map (λ done. done ++ last_line_text last)) (p.written ∙ ap (option_map (λ done. done ++ flat_map answer_text p.replies)) fresh.written) ∙ and_then before.written (flat_map answer_text p.replies) (last_line_text last);
+}
+
+-- the end of a play at a fault of the source
+pub PlayedToFault-from : (before now : Told) (a b : Standing) (bytes : List ℕ) (left : Option (List ℕ)) → IsFresh before a → IsClosed b now → GaveLines bytes left a b → now.written ≡ option_map (λ done. done ++ last_line_text SourceFault) b.written → PlayedToFault bytes before left now
+PlayedToFault-from before now a b bytes left fresh closed p written = record {
+  count = p.count;
+  gave = p.gave;
+  played = PlayedComplete-from before now a b (take p.count bytes) SourceFault fresh closed p.answered written;
+}
+
 -- a start that failed at the keeper or for want of memory
-pub among : (status : ℕ) → (status ≡ 0) ⊎ (status ≡ 5) ⊎ (status ≡ 7) → (status ≡ 4) ⊎ (status ≡ 5) ⊎ (status ≡ 7) ⊎ (status ≡ 8) → (status ≡ 5) ⊎ (status ≡ 7)
+among : (status : ℕ) → (status ≡ 0) ⊎ (status ≡ 5) ⊎ (status ≡ 7) → (status ≡ 4) ⊎ (status ≡ 5) ⊎ (status ≡ 7) ⊎ (status ≡ 8) → (status ≡ 5) ⊎ (status ≡ 7)
 among status (inr is) other = is
 among status (inl none) (inl is) = absurd (omega arith)
 among status (inl none) (inr (inl is)) = inl is
@@ -98,4 +115,42 @@ StartFailed-told source before now status bytes tells (inr is) keeper_text memor
   unread = tells;
   exit = is;
   risen = omega arith;
+}
+
+not_at : (n status : ℕ) → n ≢ 4 → n ≢ 5 → n ≢ 7 → n ≢ 8 → (status ≡ 4) ⊎ (status ≡ 5) ⊎ (status ≡ 7) ⊎ (status ≡ 8) → status ≡ n → ⊥
+not_at n status a b c d (inl is) e = a (sym e ∙ is)
+not_at n status a b c d (inr (inl is)) e = b (sym e ∙ is)
+not_at n status a b c d (inr (inr (inl is))) e = c (sym e ∙ is)
+not_at n status a b c d (inr (inr (inr is))) e = d (sym e ∙ is)
+
+-- a run whose start failed
+pub PlayedAs-failed : (bytes : List ℕ) (before : Told) (left : Option (List ℕ)) (status : ℕ) (now : Told) → (status ≡ 4) ⊎ (status ≡ 5) ⊎ (status ≡ 7) ⊎ (status ≡ 8) → ((status ≡ 5) ⊎ (status ≡ 7) → StartFailed (Some bytes) before left status now) → PlayedAs bytes before left status now
+PlayedAs-failed bytes before left status now ends failed = record {
+  input_ended = λ e. inr (failed (among status e ends));
+  bad_line = λ e. absurd (not_at 2 status (λ h. omega arith) (λ h. omega arith) (λ h. omega arith) (λ h. omega arith) ends e);
+  source_fault = λ e. absurd (not_at 3 status (λ h. omega arith) (λ h. omega arith) (λ h. omega arith) (λ h. omega arith) ends e);
+  too_long = λ e. absurd (not_at 9 status (λ h. omega arith) (λ h. omega arith) (λ h. omega arith) (λ h. omega arith) ends e);
+}
+
+not_among : (status : ℕ) → (status ≡ 1) ⊎ (status ≡ 4) → (status ≡ 5) ⊎ (status ≡ 7) → ⊥
+not_among status (inl is) (inl e) = omega arith
+not_among status (inl is) (inr e) = omega arith
+not_among status (inr is) (inl e) = omega arith
+not_among status (inr is) (inr e) = omega arith
+
+no_command : (n status : ℕ) → n ≢ 1 → n ≢ 4 → (status ≡ 1) ⊎ (status ≡ 4) → status ≡ n → ⊥
+no_command n status a b (inl is) e = a (sym e ∙ is)
+no_command n status a b (inr is) e = b (sym e ∙ is)
+
+none_ended : (status : ℕ) → (status ≡ 1) ⊎ (status ≡ 4) → (status ≡ 0) ⊎ (status ≡ 5) ⊎ (status ≡ 7) → ⊥
+none_ended status ends (inl e) = no_command 0 status (λ h. omega arith) (λ h. omega arith) ends e
+none_ended status ends (inr e) = not_among status ends e
+
+-- a run of no command
+pub PlayedAs-no_command : (bytes : List ℕ) (before : Told) (left : Option (List ℕ)) (status : ℕ) (now : Told) → (status ≡ 1) ⊎ (status ≡ 4) → PlayedAs bytes before left status now
+PlayedAs-no_command bytes before left status now ends = record {
+  input_ended = λ e. absurd (none_ended status ends e);
+  bad_line = λ e. absurd (no_command 2 status (λ h. omega arith) (λ h. omega arith) ends e);
+  source_fault = λ e. absurd (no_command 3 status (λ h. omega arith) (λ h. omega arith) ends e);
+  too_long = λ e. absurd (no_command 9 status (λ h. omega arith) (λ h. omega arith) ends e);
 }

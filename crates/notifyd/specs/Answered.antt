@@ -1,6 +1,6 @@
 -- How far the lines of a script are answered, and the bad line at which that stops.
 use Rattle.std.specs.Prelude.{◌≡◌, ℕ, ◌-◌, List, ◌++◌, take, Option, Some}
-use Rattle.notifyd.specs.Cut.{Cut, IsBadLine, GaveBytes, cut_on, all_lines}
+use Rattle.notifyd.specs.Cut.{Cut, IsBadLine, GaveBytes, cut_on, cut_of, all_lines}
 use Rattle.notifyd.specs.Play.{Standing, AnswersLines}
 
 -- the lines are these and more, and those that are more are answered
@@ -19,3 +19,9 @@ pub record GaveBadLine (cut : Cut) (bytes : List ℕ) (left : Option (List ℕ))
   pub count : ℕ
   pub gave : GaveBytes count (Some bytes) left
   pub stops : StopsAt cut.lines (all_lines (cut_on cut (take count bytes))) number column before after
+
+-- the source gave bytes, and the lines that are complete in them are answered
+pub record GaveLines (bytes : List ℕ) (left : Option (List ℕ)) (before after : Standing) : Type 0 where
+  pub count : ℕ
+  pub gave : GaveBytes count (Some bytes) left
+  pub answered : AnswersLines before (cut_of (take count bytes)).lines after

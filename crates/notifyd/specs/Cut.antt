@@ -2,6 +2,10 @@
 use Rattle.std.specs.Prelude.{◌≡◌, ℕ, ◌-◌, ◌<◌, ◌≤◌, ◌==◌, ◌||◌, Bool, List, [], ◌∷◌, ◌++◌, length, drop, nat_lt, fold, slice_get, Some, Option, option_map, IfSome, if◌then◌else◌, Err}
 use Rattle.notifyd.specs.Grammar.{reading, max_line}
 
+-- the most bytes that a script may have
+abbrev pub max_script : ℕ
+max_script = 67108864
+
 -- the lines that are complete, each with its line feed, and the bytes behind them
 pub record Cut : Type 0 where
   pub lines : List (List ℕ)

@@ -1,5 +1,5 @@
 //! The command line, and what it runs.
-ghost use Rattle.std.specs.Prelude.{◌≡◌, ◌≢◌, ℕ, ◌+◌, ◌<◌, ◌≤◌, ◌⊎◌, ◌++◌, List, [], length, Some, true, false, IfOk, IfErr, IfSome, OnOk, OnErr, vec_len};
+ghost use Rattle.std.specs.Prelude.{◌≡◌, ◌≢◌, ℕ, ◌+◌, ◌<◌, ◌≤◌, ◌⊎◌, ◌++◌, List, [], length, true, false, IfOk, IfErr, IfSome, OnOk, OnErr, vec_len};
 ghost use Rattle.std.specs.Vec.{vec_capacity};
 ghost use Rattle.chat_model.specs.Counts.{HasRisen};
 ghost use Rattle.std.specs.Option.{option_map};
@@ -7,7 +7,7 @@ ghost use Rattle.notifyd.specs.Reply.{reply_text};
 ghost use Rattle.notifyd.specs.LastLine.{last_line_text};
 ghost use Rattle.notifyd.specs.Cut.{GaveMore};
 ghost use Rattle.notifyd.specs.Play.{world};
-ghost use Rattle.notifyd.specs.Run.{told_by, started, PlayedToEnd, PlayedToBadLine, StartFailed};
+ghost use Rattle.notifyd.specs.Run.{told_by, started, PlayedAs};
 ghost use Rattle.notifyd.specs.Status.{is_play, IsAmong, statuses, status_met, play_statuses, KeptIsEmpty, KeptIsConsistent, KeptIsConserved};
 
 use crate::last_line::{LastLine, write_last_line};
@@ -57,6 +57,8 @@ fn end_start<O: Sink>(out: &mut O, fault: StartFault) -> u8
         O.written out.new ≡ option_map (λ done. done ++ reply_text Reply.KeeperFault) (O.written out.old) }
     ensures memory_text { result ≡ 7 →
         O.written out.new ≡ option_map (λ done. done ++ reply_text Reply.OutOfMemory) (O.written out.old) }
+    ensures not_empty_text { result ≡ 8 →
+        O.written out.new ≡ option_map (λ done. done ++ last_line_text LastLine.NotEmpty) (O.written out.old) }
     ensures cause { result ≡ 4 → HasRisen (O.faults out.old) (O.faults out.new) }
     ensures count { O.faults out.old ≤ O.faults out.new }
 {
@@ -91,9 +93,13 @@ fn end_play<O: Sink>(out: &mut O, ending: Ending, met: Met) -> u8
     ensures bad_text { (number column : ℕ) → result ≡ 2 → ending ≡ Ending.Stopped (Stop.BadLine number column) →
         O.written out.new ≡ option_map (λ done. done ++ last_line_text (LastLine.BadLine number column)) (O.written out.old) }
     ensures source { result ≡ 3 → ending ≡ Ending.SourceFault }
+    ensures source_text { result ≡ 3 →
+        O.written out.new ≡ option_map (λ done. done ++ last_line_text LastLine.SourceFault) (O.written out.old) }
     ensures cause { result ≡ 4 → (ending ≡ Ending.Stopped Stop.SinkFault) ⊎ HasRisen (O.faults out.old) (O.faults out.new) }
     ensures keeper { result ≡ 5 → met.keeper_fault ≡ true }
     ensures long { result ≡ 9 → ending ≡ Ending.TooLong }
+    ensures long_text { result ≡ 9 →
+        O.written out.new ≡ option_map (λ done. done ++ last_line_text LastLine.TooLong) (O.written out.old) }
     ensures count { O.faults out.old ≤ O.faults out.new }
 {
     match ending {
@@ -153,18 +159,15 @@ fn play_script<S: Source, O: Sink, K: Keeper>(
 ) -> Ran<K>
     ensures status { IsAmong statuses result.status × (result.status ≢ 1) }
     ensures ended { result.status ≡ 0 → IfSome (S.remaining source.new) (λ bytes. bytes ≡ []) }
-    ensures played { (result.status ≡ 0) ⊎ (result.status ≡ 5) ⊎ (result.status ≡ 7) → IfSome (S.remaining source.old) (λ bytes.
-        PlayedToEnd bytes (told_by (O.written out.old) (K.kept keeper) (K.faults keeper)) (S.remaining source.new) result.status
-        (told_by (O.written out.new) (K.kept result.keeper) (K.faults result.keeper))
-        ⊎ StartFailed (Some bytes) (told_by (O.written out.old) (K.kept keeper) (K.faults keeper)) (S.remaining source.new) result.status
-        (told_by (O.written out.new) (K.kept result.keeper) (K.faults result.keeper))) }
-    ensures bad_line { result.status ≡ 2 → IfSome (S.remaining source.old) (λ bytes.
-        PlayedToBadLine bytes (told_by (O.written out.old) (K.kept keeper) (K.faults keeper)) (S.remaining source.new)
-        (told_by (O.written out.new) (K.kept result.keeper) (K.faults result.keeper))) }
+    ensures played { IfSome (S.remaining source.old) (λ bytes.
+        PlayedAs bytes (told_by (O.written out.old) (K.kept keeper) (K.faults keeper)) (S.remaining source.new)
+        result.status (told_by (O.written out.new) (K.kept result.keeper) (K.faults result.keeper))) }
     ensures source_fault { result.status ≡ 3 → HasRisen (S.faults source.old) (S.faults source.new) }
     ensures sink_fault { result.status ≡ 4 → HasRisen (O.faults out.old) (O.faults out.new) }
     ensures keeper_fault { result.status ≡ 5 → HasRisen (K.faults keeper) (K.faults result.keeper) }
     ensures not_empty { result.status ≡ 8 → IfSome (K.kept keeper) (λ kept. 0 < length kept.journal + length kept.rows) }
+    ensures refused { result.status ≡ 8 → (K.kept result.keeper ≡ K.kept keeper)
+        × (O.written out.new ≡ option_map (λ done. done ++ last_line_text LastLine.NotEmpty) (O.written out.old)) }
     ensures too_long { result.status ≡ 9 → GaveMore MAX_SCRIPT (S.remaining source.old) (S.remaining source.new) }
     ensures was_empty { IsAmong play_statuses result.status → KeptIsEmpty (K.kept keeper) }
     ensures consistent { KeptIsConsistent (K.kept keeper) → KeptIsConsistent (K.kept result.keeper) }
@@ -207,20 +210,19 @@ pub fn run<S: Source, O: Sink, K: Keeper, P: Spool>(
 ) -> Ran<K>
     ensures status { IsAmong statuses result.status }
     ensures command { result.status ≡ 1 → is_play words.now ≡ false }
+    ensures usage { result.status ≡ 1 →
+        O.written out.new ≡ option_map (λ done. done ++ last_line_text LastLine.Usage) (O.written out.old) }
     ensures no_command { is_play words.now ≡ false → (result.keeper ≡ keeper) × ((result.status ≡ 1) ⊎ (result.status ≡ 4)) }
     ensures ended { result.status ≡ 0 → IfSome (S.remaining source.new) (λ bytes. bytes ≡ []) }
-    ensures played { (result.status ≡ 0) ⊎ (result.status ≡ 5) ⊎ (result.status ≡ 7) → IfSome (S.remaining source.old) (λ bytes.
-        PlayedToEnd bytes (told_by (O.written out.old) (K.kept keeper) (K.faults keeper)) (S.remaining source.new) result.status
-        (told_by (O.written out.new) (K.kept result.keeper) (K.faults result.keeper))
-        ⊎ StartFailed (Some bytes) (told_by (O.written out.old) (K.kept keeper) (K.faults keeper)) (S.remaining source.new) result.status
-        (told_by (O.written out.new) (K.kept result.keeper) (K.faults result.keeper))) }
-    ensures bad_line { result.status ≡ 2 → IfSome (S.remaining source.old) (λ bytes.
-        PlayedToBadLine bytes (told_by (O.written out.old) (K.kept keeper) (K.faults keeper)) (S.remaining source.new)
-        (told_by (O.written out.new) (K.kept result.keeper) (K.faults result.keeper))) }
+    ensures played { IfSome (S.remaining source.old) (λ bytes.
+        PlayedAs bytes (told_by (O.written out.old) (K.kept keeper) (K.faults keeper)) (S.remaining source.new)
+        result.status (told_by (O.written out.new) (K.kept result.keeper) (K.faults result.keeper))) }
     ensures source_fault { result.status ≡ 3 → HasRisen (S.faults source.old) (S.faults source.new) }
     ensures sink_fault { result.status ≡ 4 → HasRisen (O.faults out.old) (O.faults out.new) }
     ensures keeper_fault { result.status ≡ 5 → HasRisen (K.faults keeper) (K.faults result.keeper) }
     ensures not_empty { result.status ≡ 8 → IfSome (K.kept keeper) (λ kept. 0 < length kept.journal + length kept.rows) }
+    ensures refused { result.status ≡ 8 → (K.kept result.keeper ≡ K.kept keeper)
+        × (O.written out.new ≡ option_map (λ done. done ++ last_line_text LastLine.NotEmpty) (O.written out.old)) }
     ensures too_long { result.status ≡ 9 → GaveMore MAX_SCRIPT (S.remaining source.old) (S.remaining source.new) }
     ensures was_empty { IsAmong play_statuses result.status → KeptIsEmpty (K.kept keeper) }
     ensures consistent { KeptIsConsistent (K.kept keeper) → KeptIsConsistent (K.kept result.keeper) }

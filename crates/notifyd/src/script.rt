@@ -4,7 +4,7 @@ ghost use Rattle.std.specs.Vec.{vec_capacity};
 ghost use Rattle.chat_model.specs.Counts.{HasRisen};
 ghost use Rattle.notifyd.specs.Cut.{Cut, IsCutAt, GaveBytes, GaveMore, uncut, cut_more, cut_on, cut_of, all_lines};
 ghost use Rattle.notifyd.specs.Play.{IsCounted, AnswersLines, standing};
-ghost use Rattle.notifyd.specs.Answered.{AnswersRest, StopsAt, GaveBadLine};
+ghost use Rattle.notifyd.specs.Answered.{AnswersRest, StopsAt, GaveBadLine, GaveLines};
 
 use crate::line::MAX_LINE;
 use crate::play::{Play, Stop, play_line};
@@ -155,6 +155,12 @@ fn play_next<K: Keeper, S: Source, O: Sink>(
 
     ensures ended { result ≡ Err Ending.InputEnded → IfSome (S.remaining source.new) (λ bytes. bytes ≡ []) }
     ensures none_left { result ≡ Err Ending.InputEnded → IfSome (S.remaining source.old) (λ bytes. bytes ≡ []) }
+    ensures told_still { result ≡ Err Ending.InputEnded → S.remaining source.new ≡ S.remaining source.old }
+    ensures stays { result ≡ Err Ending.SourceFault → (S.remaining source.new ≡ S.remaining source.old)
+        × (standing K.faults play.new (O.written out.new) ≡ standing K.faults play.old (O.written out.old)) }
+    ensures answered_long { result ≡ Err Ending.TooLong → (bytes : List ℕ) → S.remaining source.old ≡ Some bytes →
+        (cut : Cut) → IsCutAt cut play.old.line line.old.items → AnswersRest cut.lines (cut_on cut (take allowed bytes)).lines
+        (standing K.faults play.old (O.written out.old)) (standing K.faults play.new (O.written out.new)) }
     ensures answered_last { result ≡ Err Ending.InputEnded → (cut : Cut) →
         IsCutAt cut play.old.line line.old.items → AnswersRest cut.lines (all_lines cut)
         (standing K.faults play.old (O.written out.old)) (standing K.faults play.new (O.written out.new)) }
@@ -200,7 +206,13 @@ pub fn play_source<K: Keeper, S: Source, O: Sink>(
 
     ensures ended { result ≡ Ending.InputEnded → IfSome (S.remaining source.new) (λ bytes. bytes ≡ []) }
     ensures answered { result ≡ Ending.InputEnded → IfSome (S.remaining source.old) (λ bytes.
-        AnswersLines (standing K.faults play.old (O.written out.old)) (all_lines (cut_of bytes)) (standing K.faults play.new (O.written out.new))) }
+        (S.remaining source.new ≡ Some [])
+        × AnswersLines (standing K.faults play.old (O.written out.old)) (all_lines (cut_of bytes)) (standing K.faults play.new (O.written out.new))) }
+    ensures answered_long { result ≡ Ending.TooLong → IfSome (S.remaining source.old) (λ bytes.
+        AnswersLines (standing K.faults play.old (O.written out.old)) (cut_of (take MAX_SCRIPT bytes)).lines
+        (standing K.faults play.new (O.written out.new))) }
+    ensures answered_fault { result ≡ Ending.SourceFault → IfSome (S.remaining source.old) (λ bytes.
+        GaveLines bytes (S.remaining source.new) (standing K.faults play.old (O.written out.old)) (standing K.faults play.new (O.written out.new))) }
     ensures more { result ≡ Ending.TooLong → GaveMore MAX_SCRIPT (S.remaining source.old) (S.remaining source.new) }
     ensures bad { (number column : ℕ) → result ≡ Ending.Stopped (Stop.BadLine number column) →
         IfSome (S.remaining source.old) (λ bytes. GaveBadLine uncut bytes (S.remaining source.new) number column
