@@ -1,5 +1,5 @@
 -- Counts of faults over several calls.
-use Rattle.std.proofs.Common.{◌≡◌, ℕ, ◌+◌, ◌-◌, ◌^◌, ◌≤◌, Bool, true, false, arith, refl}
+use Rattle.std.proofs.Common.{◌≡◌, ℕ, ◌≤◌, Bool, true, false, arith, refl}
 use Rattle.chat_model.specs.Counts.{HasRisen}
 use Rattle.notifyd.specs.Play.{IsCounted}
 use Rattle.notifyd.specs.declared.play.Met.{Met}

@@ -1,8 +1,7 @@
 -- Lines that are cut from bytes: one more byte, one more piece, and a bad line that stays.
-use Rattle.std.proofs.Common.{Err, suc, zero, ◌≡◌, ℕ, ◌+◌, ◌-◌, ◌<◌, ◌≤◌, Bool, true, false, cond, List, [], ◌∷◌, ◌++◌, length, take, drop, get_or, Option, Some, None, refl, sym, ap, ◌∙◌, subst, append_assoc, take-append-drop, arith, rules, eqb, ltb, ◌||◌}
-use Rattle.std.specs.Prelude.{slice_get, fold, if◌then◌else◌}
+use Rattle.std.proofs.Common.{suc, zero, ◌≡◌, ℕ, ◌+◌, ◌<◌, true, false, List, [], ◌∷◌, ◌++◌, length, take, get_or, Some, refl, sym, ap, ◌∙◌, subst, append_assoc, rules}
+use Rattle.std.specs.Prelude.{slice_get, if◌then◌else◌}
 use Rattle.std.proofs.lemmas.List.Sums.{fold-append, fold_more}
-use Rattle.notifyd.specs.Grammar.{reading, max_line}
 use Rattle.notifyd.specs.Cut.{Cut, IsCutAt, IsBadLine, cut_more, cut_on, completes}
 
 -- a byte more
@@ -31,29 +30,18 @@ IsBadLine-front lines more number column b = record {
 }
 
 -- a byte that completes no line leaves the lines
-pub lines-more : (cut : Cut) (byte : ℕ) → (more : List (List ℕ)) × ((cut_more cut byte).lines ≡ cut.lines ++ more)
+lines-more : (cut : Cut) (byte : ℕ) → (more : List (List ℕ)) × ((cut_more cut byte).lines ≡ cut.lines ++ more)
 lines-more cut byte =
     elim (completes (cut.rest ++ byte ∷ []) byte) as (λ b. (more : List (List ℕ)) × ((let line = cut.rest ++ byte ∷ [] in let after : Cut = if b then record { lines = cut.lines ++ line ∷ []; rest = [] } else record { lines = cut.lines; rest = line } in after.lines) ≡ cut.lines ++ more)) [ true ↦ ((cut.rest ++ byte ∷ []) ∷ [], refl) | false ↦ ([], search rules) ]
 
--- a bad line stays bad as more bytes come
-pub IsBadLine-more : (cut : Cut) (byte number column : ℕ) → IsBadLine cut.lines number column → IsBadLine (cut_more cut byte).lines number column
-IsBadLine-more cut byte number column b =
-    let w = lines-more cut byte in
-    let P : List (List ℕ) → Type 0 = λ lines. IsBadLine lines number column in
-    subst P (sym w.1) (IsBadLine-front cut.lines w.0 number column b)
-
-pub IsBadLine-on : (cut : Cut) (bytes : List ℕ) (number column : ℕ) → IsBadLine cut.lines number column → IsBadLine (cut_on cut bytes).lines number column
+-- bytes more leave the lines
+pub lines-on : (cut : Cut) (bytes : List ℕ) → (more : List (List ℕ)) × ((cut_on cut bytes).lines ≡ cut.lines ++ more)
 unfolding cut_on
-IsBadLine-on cut [] number column b = b
-IsBadLine-on cut (byte ∷ bytes) number column b = IsBadLine-on (cut_more cut byte) bytes number column (IsBadLine-more cut byte number column b)
-
--- a bad line that one byte completes is one of the whole piece
-pub IsBadLine-at : (cut : Cut) (bytes : List ℕ) (k number column : ℕ) → k < length bytes → IsBadLine (cut_more (cut_on cut (take k bytes)) (get_or bytes k 0)).lines number column → IsBadLine (cut_on cut bytes).lines number column
-IsBadLine-at cut bytes k number column h b =
-    let P : Cut → Type 0 = λ after. IsBadLine after.lines number column in
-    let here = subst P (sym (cut_on-take cut bytes k h)) b in
-    let there = IsBadLine-on (cut_on cut (take (k + 1) bytes)) (drop (k + 1) bytes) number column here in
-    subst P (sym (cut_on-append cut (take (k + 1) bytes) (drop (k + 1) bytes)) ∙ ap (cut_on cut) (take-append-drop (k + 1) bytes)) there
+lines-on cut [] = ([], search rules)
+lines-on cut (byte ∷ bytes) =
+    let one = lines-more cut byte in
+    let rest = lines-on (cut_more cut byte) bytes in
+    (one.0 ++ rest.0, rest.1 ∙ ap (λ front. front ++ rest.0) one.1 ∙ append_assoc cut.lines one.0 rest.0)
 
 -- where the cut stands after one byte more
 pub IsCutAt-more : (cut : Cut) (bytes : List ℕ) (k number : ℕ) (under_way : List ℕ) → k < length bytes → IsCutAt (cut_more (cut_on cut (take k bytes)) (get_or bytes k 0)) number under_way → IsCutAt (cut_on cut (take (k + 1) bytes)) number under_way

@@ -7,5 +7,7 @@ pub mod LineLemmas
 pub mod PlayLemmas
 pub mod CutLemmas
 pub mod CountLemmas
+pub mod AnswerLemmas
 pub mod GaveLemmas
 pub mod KeptLemmas
+pub mod RunLemmas

@@ -1,5 +1,5 @@
 -- Steps of a play, from what the office answers.
-use Rattle.std.proofs.Common.{◌≡◌, ℕ, List, [], ◌∷◌, ◌++◌, Option, Some, None, Result, Ok, Err, refl, sym, ap, ◌∙◌, IsTrue, is_none, subst, rules, arith, true}
+use Rattle.std.proofs.Common.{◌≡◌, ℕ, List, [], ◌∷◌, ◌++◌, Option, Some, None, Result, Err, refl}
 use Rattle.std.specs.Prelude.{◌↔◌}
 use Rattle.chat_model.specs.declared.event.Stamped.{Stamped}
 use Rattle.chat_model.specs.declared.event.Event.TheVariants as event
@@ -13,7 +13,7 @@ use Rattle.office.specs.declared.answer.AskFault.TheVariants.{Refused}
 use Rattle.office.specs.Office.{answer_of}
 use Rattle.notifyd.specs.declared.line.Line.TheVariants as line
 use Rattle.notifyd.specs.declared.reply.Reply.TheVariants as reply
-use Rattle.notifyd.specs.Play.{World, world, Step, IsStep, asked_unless}
+use Rattle.notifyd.specs.Play.{world, IsStep}
 
 -- no rule is broken where no answer is a refusal
 pub unrefused : (broken : Option Refusal) (answer : Result Answer AskFault) → ((n : Refusal) → (answer ≡ Err (Refused n)) ↔ (broken ≡ Some n)) → ((n : Refusal) → answer ≡ Err (Refused n) → ⊥) → broken ≡ None

@@ -1,6 +1,10 @@
 -- The lines of a script, cut from its bytes.
-use Rattle.std.specs.Prelude.{◌≡◌, ℕ, ◌-◌, ◌<◌, ◌≤◌, ◌==◌, ◌||◌, Bool, List, [], ◌∷◌, ◌++◌, length, take, drop, nat_lt, fold, slice_get, Some, Option, option_map, IfSome, if◌then◌else◌, Err}
+use Rattle.std.specs.Prelude.{◌≡◌, ℕ, ◌-◌, ◌<◌, ◌≤◌, ◌==◌, ◌||◌, Bool, List, [], ◌∷◌, ◌++◌, length, drop, nat_lt, fold, slice_get, Some, Option, option_map, IfSome, if◌then◌else◌, Err}
 use Rattle.notifyd.specs.Grammar.{reading, max_line}
+
+-- the most bytes that a script may have
+abbrev pub max_script : ℕ
+max_script = 67108864
 
 -- the lines that are complete, each with its line feed, and the bytes behind them
 pub record Cut : Type 0 where
@@ -60,9 +64,3 @@ pub record GaveMore (most : ℕ) (before after : Option (List ℕ)) : Type 0 whe
   pub count : ℕ
   pub gave : GaveBytes count before after
   pub more : most < count
-
--- the source gave bytes of which a line is bad
-pub record GaveBadLine (cut : Cut) (bytes : List ℕ) (after : Option (List ℕ)) (number column : ℕ) : Type 0 where
-  pub count : ℕ
-  pub gave : GaveBytes count (Some bytes) after
-  pub bad : IsBadLine (all_lines (cut_on cut (take count bytes))) number column

@@ -13,4 +13,6 @@ pub mod Grammar
 pub mod Fault
 pub mod Cut
 pub mod Play
+pub mod Answered
 pub mod Status
+pub mod Run

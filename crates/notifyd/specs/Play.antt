@@ -1,5 +1,5 @@
 -- The play of a script: a world, what each line does to it and is answered, and how it goes on.
-use Rattle.std.specs.Prelude.{◌≡◌, ℕ, ◌+◌, ◌-◌, ◌^◌, ◌≤◌, ◌&&◌, ◌||◌, ◌==◌, Bool, true, false, List, [], ◌∷◌, ◌++◌, length, nat_le, nat_lt, max, take, Option, Some, None, option_map, Result, Ok, Err, is_none, is_some, IsTrue, ⊤, if◌then◌else◌, fold, slice_index_or}
+use Rattle.std.specs.Prelude.{◌≡◌, ℕ, ◌+◌, ◌-◌, ◌^◌, ◌≤◌, ◌||◌, Bool, true, false, List, [], ◌∷◌, ◌++◌, length, nat_le, max, min, count_by, Option, Some, None, option_map, Ok, is_none, IsTrue, ⊤, if◌then◌else◌}
 use Rattle.std.specs.Option.{option_map_or}
 use Rattle.std.specs.List.{list_any, flat_map}
 use Rattle.chat_model.specs.declared.event.Stamped.{Stamped}
@@ -13,11 +13,12 @@ use Rattle.notice_ledger.specs.Due.{DueUser, first_due, batch_rows}
 use Rattle.notice_ledger.specs.Outbox.{mail_entries}
 use Rattle.notice_ledger.specs.Audit.{counts_of}
 use Rattle.office.specs.declared.answer.MailAnswer.TheVariants.{Mailed, NotDue}
-use Rattle.office.specs.Office.{answer_of, least_due}
+use Rattle.office.specs.Office.{answer_of}
 use Rattle.chat_model.specs.Counts.{HasRisen}
 use Rattle.notifyd.specs.Grammar.{reading}
 use Rattle.notifyd.specs.Reply.{reply_text}
 use Rattle.notifyd.specs.declared.play.Met.{Met}
+use Rattle.notifyd.specs.declared.play.Play.{Play}
 use Rattle.notifyd.specs.declared.line.Line.{Line}
 use Rattle.notifyd.specs.declared.line.Line.TheVariants as line
 use Rattle.notifyd.specs.declared.reply.Reply.{Reply}
@@ -139,13 +140,49 @@ abbrev pub is_out_of_memory : Option Reply → Bool
 is_out_of_memory (Some reply.OutOfMemory) = true
 is_out_of_memory _ = false
 
--- a line is played, and its answer is written, where the sink tells what is written; what was met is met still
-pub record AnswersLine (before : World) (bytes : List ℕ) (after : World) (met now_met : Met) (written now_written : Option (List ℕ)) : Type 0 where
+-- where a play stands: the world, what was met, how often the keeper failed, and what is written, where the sink tells it
+pub record Standing : Type 0 where
+  pub world : World
+  pub met : Met
+  pub faults : ℕ
+  pub written : Option (List ℕ)
+
+abbrev pub standing : {K : Type 0} → (K → ℕ) → Play K → Option (List ℕ) → Standing
+standing faults play written =
+    record { world = world play.office.journal play.clock; met = play.met; faults = faults play.office.keeper; written = written }
+
+-- a line is played, and its answer is written and nothing else; what was met is met still, and at a keeper's fault its
+-- count rose
+pub record AnswersLine (before : Standing) (bytes : List ℕ) (after : Standing) : Type 0 where
   pub reply : Option Reply
-  pub played : PlaysLine before bytes reply after
-  pub keeper_fault : now_met.keeper_fault ≡ (met.keeper_fault || is_keeper_fault reply)
-  pub out_of_memory : now_met.out_of_memory ≡ (met.out_of_memory || is_out_of_memory reply)
-  pub shown : now_written ≡ option_map (λ done. done ++ answer_text reply) written
+  pub played : PlaysLine before.world bytes reply after.world
+  pub keeper_fault : after.met.keeper_fault ≡ (before.met.keeper_fault || is_keeper_fault reply)
+  pub out_of_memory : after.met.out_of_memory ≡ (before.met.out_of_memory || is_out_of_memory reply)
+  pub written : after.written ≡ option_map (λ done. done ++ answer_text reply) before.written
+  pub counted : before.faults ≤ after.faults
+  pub risen : is_keeper_fault reply ≡ true → HasRisen before.faults after.faults
+
+-- the lines are played one after another, each with its reply
+abbrev pub PlaysLines : World → List (List ℕ) → List (Option Reply) → World → Type 0
+PlaysLines before [] [] after = after ≡ before
+PlaysLines before (bytes ∷ lines) (answer ∷ answers) after =
+    (between : World) × PlaysLine before bytes answer between × PlaysLines between lines answers after
+PlaysLines before [] (answer ∷ answers) after = ⊥
+PlaysLines before (bytes ∷ lines) [] after = ⊥
+
+-- the count rose by so many, or stands at the end of its type
+abbrev pub HaveRisen : ℕ → ℕ → ℕ → Type 0
+HaveRisen many before now = min (before + many) (2 ^ 64 - 1) ≤ now
+
+-- the lines are played, and their answers are written and nothing else; what was met is met still, and at each keeper's
+-- fault its count rose
+pub record AnswersLines (before : Standing) (lines : List (List ℕ)) (after : Standing) : Type 0 where
+  pub replies : List (Option Reply)
+  pub played : PlaysLines before.world lines replies after.world
+  pub keeper_fault : after.met.keeper_fault ≡ (before.met.keeper_fault || list_any is_keeper_fault replies)
+  pub out_of_memory : after.met.out_of_memory ≡ (before.met.out_of_memory || list_any is_out_of_memory replies)
+  pub written : after.written ≡ option_map (λ done. done ++ flat_map answer_text replies) before.written
+  pub risen : HaveRisen (count_by is_keeper_fault replies) before.faults after.faults
 
 -- a keeper's fault that was met since has its count risen since
 pub record IsCounted (met now_met : Met) (faults now_faults : ℕ) : Type 0 where

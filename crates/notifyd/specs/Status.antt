@@ -1,5 +1,5 @@
 -- The status with which a run ends, and what is kept then.
-use Rattle.std.specs.Prelude.{◌≡◌, ℕ, ◌==◌, Bool, false, List, [], ◌∷◌, Option, IfSome, IsTrue, bytes_eq, codes}
+use Rattle.std.specs.Prelude.{◌≡◌, ℕ, ◌==◌, Bool, true, false, List, [], ◌∷◌, Option, IfSome, IsTrue, bytes_eq, codes}
 use Rattle.std.specs.List.{list_any}
 use Rattle.keeper.specs.declared.keeper.Kept.{Kept}
 use Rattle.notice_ledger.specs.Conserved.{IsConserved}
@@ -18,6 +18,12 @@ IsAmong numbers status = IsTrue (list_any (λ number. number == status) numbers)
 -- the sink failed, the keeper failed, memory was wanted, what is kept was not empty, the script is too long
 abbrev pub statuses : List ℕ
 statuses = 0 ∷ 1 ∷ 2 ∷ 3 ∷ 4 ∷ 5 ∷ 7 ∷ 8 ∷ 9 ∷ []
+
+-- the status at the end of the input, where a keeper's fault was met or not, and want of memory or not
+abbrev pub status_met : Bool → Bool → ℕ
+status_met true out_of_memory = 5
+status_met false true = 7
+status_met false false = 0
 
 -- the statuses of a play, which comes only after a start; the sink's and the keeper's faults and want of memory may
 -- come at the start too

@@ -1,9 +1,14 @@
 //! The command line, and what it runs.
-ghost use Rattle.std.specs.Prelude.{◌≡◌, ◌≢◌, ℕ, ◌+◌, ◌<◌, ◌≤◌, ◌⊎◌, List, [], length, true, false, IfOk, IfErr, IfSome, OnOk, OnErr, vec_len};
+ghost use Rattle.std.specs.Prelude.{◌≡◌, ◌≢◌, ℕ, ◌+◌, ◌<◌, ◌≤◌, ◌⊎◌, ◌++◌, List, [], length, true, false, IfOk, IfErr, IfSome, OnOk, OnErr, vec_len};
 ghost use Rattle.std.specs.Vec.{vec_capacity};
 ghost use Rattle.chat_model.specs.Counts.{HasRisen};
-ghost use Rattle.notifyd.specs.Cut.{GaveMore, GaveBadLine, uncut};
-ghost use Rattle.notifyd.specs.Status.{is_play, IsAmong, statuses, play_statuses, KeptIsEmpty, KeptIsConsistent, KeptIsConserved};
+ghost use Rattle.std.specs.Option.{option_map};
+ghost use Rattle.notifyd.specs.Reply.{reply_text};
+ghost use Rattle.notifyd.specs.LastLine.{last_line_text};
+ghost use Rattle.notifyd.specs.Cut.{GaveMore};
+ghost use Rattle.notifyd.specs.Play.{world};
+ghost use Rattle.notifyd.specs.Run.{told_by, started, PlayedAs};
+ghost use Rattle.notifyd.specs.Status.{is_play, IsAmong, statuses, status_met, play_statuses, KeptIsEmpty, KeptIsConsistent, KeptIsConserved};
 
 use crate::last_line::{LastLine, write_last_line};
 use crate::line::MAX_LINE;
@@ -48,6 +53,12 @@ fn end_start<O: Sink>(out: &mut O, fault: StartFault) -> u8
     ensures among { (result ≡ 4) ⊎ (result ≡ 5) ⊎ (result ≡ 7) ⊎ (result ≡ 8) }
     ensures keeper { result ≡ 5 → fault ≡ StartFault.KeeperFault }
     ensures not_empty { result ≡ 8 → fault ≡ StartFault.NotEmpty }
+    ensures keeper_text { result ≡ 5 →
+        O.written out.new ≡ option_map (λ done. done ++ reply_text Reply.KeeperFault) (O.written out.old) }
+    ensures memory_text { result ≡ 7 →
+        O.written out.new ≡ option_map (λ done. done ++ reply_text Reply.OutOfMemory) (O.written out.old) }
+    ensures not_empty_text { result ≡ 8 →
+        O.written out.new ≡ option_map (λ done. done ++ last_line_text LastLine.NotEmpty) (O.written out.old) }
     ensures cause { result ≡ 4 → HasRisen (O.faults out.old) (O.faults out.new) }
     ensures count { O.faults out.old ≤ O.faults out.new }
 {
@@ -59,6 +70,7 @@ fn end_start<O: Sink>(out: &mut O, fault: StartFault) -> u8
 }
 
 fn status_of(met: Met) -> u8
+    ensures is { result ≡ status_met met.keeper_fault met.out_of_memory }
     ensures among { (result ≡ 0) ⊎ (result ≡ 5) ⊎ (result ≡ 7) }
     ensures keeper { result ≡ 5 → met.keeper_fault ≡ true }
 {
@@ -75,11 +87,19 @@ fn status_of(met: Met) -> u8
 fn end_play<O: Sink>(out: &mut O, ending: Ending, met: Met) -> u8
     ensures among { IsAmong statuses result × (result ≢ 1) × (result ≢ 8) }
     ensures ended { result ≡ 0 → ending ≡ Ending.InputEnded }
+    ensures whole { (result ≡ 0) ⊎ (result ≡ 5) ⊎ (result ≡ 7) → (ending ≡ Ending.InputEnded)
+        × (result ≡ status_met met.keeper_fault met.out_of_memory) × (O.written out.new ≡ O.written out.old) }
     ensures bad { result ≡ 2 → (number : ℕ) × (column : ℕ) × (ending ≡ Ending.Stopped (Stop.BadLine number column)) }
+    ensures bad_text { (number column : ℕ) → result ≡ 2 → ending ≡ Ending.Stopped (Stop.BadLine number column) →
+        O.written out.new ≡ option_map (λ done. done ++ last_line_text (LastLine.BadLine number column)) (O.written out.old) }
     ensures source { result ≡ 3 → ending ≡ Ending.SourceFault }
+    ensures source_text { result ≡ 3 →
+        O.written out.new ≡ option_map (λ done. done ++ last_line_text LastLine.SourceFault) (O.written out.old) }
     ensures cause { result ≡ 4 → (ending ≡ Ending.Stopped Stop.SinkFault) ⊎ HasRisen (O.faults out.old) (O.faults out.new) }
     ensures keeper { result ≡ 5 → met.keeper_fault ≡ true }
     ensures long { result ≡ 9 → ending ≡ Ending.TooLong }
+    ensures long_text { result ≡ 9 →
+        O.written out.new ≡ option_map (λ done. done ++ last_line_text LastLine.TooLong) (O.written out.old) }
     ensures count { O.faults out.old ≤ O.faults out.new }
 {
     match ending {
@@ -95,7 +115,9 @@ fn end_play<O: Sink>(out: &mut O, ending: Ending, met: Met) -> u8
 
 // Takes the room for the longest line, and starts the office at moment 0.
 fn start<K: Keeper>(alloc: Global, keeper: K) -> Result<(Play<K>, Vec<u8>), (StartFault, K)>
-    ensures fresh { IfOk result (λ begun. (begun.0.line ≡ 0) × (begun.0.met.keeper_fault ≡ false)) }
+    ensures fresh { IfOk result (λ begun. (begun.0.line ≡ 0) × (begun.0.met.keeper_fault ≡ false)
+        × (begun.0.met.out_of_memory ≡ false)) }
+    ensures begun { IfOk result (λ begun. world begun.0.office.journal begun.0.clock ≡ started) }
     ensures room { IfOk result (λ begun. (begun.1.items ≡ []) × (MAX_LINE < vec_capacity begun.1)) }
     ensures was_empty { OnOk result (KeptIsEmpty (K.kept keeper)) }
     ensures counted { IfOk result (λ begun. K.faults keeper ≤ K.faults begun.0.office.keeper) }
@@ -137,12 +159,15 @@ fn play_script<S: Source, O: Sink, K: Keeper>(
 ) -> Ran<K>
     ensures status { IsAmong statuses result.status × (result.status ≢ 1) }
     ensures ended { result.status ≡ 0 → IfSome (S.remaining source.new) (λ bytes. bytes ≡ []) }
-    ensures bad_line { result.status ≡ 2 → IfSome (S.remaining source.old) (λ bytes.
-        (number : ℕ) × (column : ℕ) × GaveBadLine uncut bytes (S.remaining source.new) number column) }
+    ensures played { IfSome (S.remaining source.old) (λ bytes.
+        PlayedAs bytes (told_by (O.written out.old) (K.kept keeper) (K.faults keeper)) (S.remaining source.new)
+        result.status (told_by (O.written out.new) (K.kept result.keeper) (K.faults result.keeper))) }
     ensures source_fault { result.status ≡ 3 → HasRisen (S.faults source.old) (S.faults source.new) }
     ensures sink_fault { result.status ≡ 4 → HasRisen (O.faults out.old) (O.faults out.new) }
     ensures keeper_fault { result.status ≡ 5 → HasRisen (K.faults keeper) (K.faults result.keeper) }
     ensures not_empty { result.status ≡ 8 → IfSome (K.kept keeper) (λ kept. 0 < length kept.journal + length kept.rows) }
+    ensures refused { result.status ≡ 8 → (K.kept result.keeper ≡ K.kept keeper)
+        × (O.written out.new ≡ option_map (λ done. done ++ last_line_text LastLine.NotEmpty) (O.written out.old)) }
     ensures too_long { result.status ≡ 9 → GaveMore MAX_SCRIPT (S.remaining source.old) (S.remaining source.new) }
     ensures was_empty { IsAmong play_statuses result.status → KeptIsEmpty (K.kept keeper) }
     ensures consistent { KeptIsConsistent (K.kept keeper) → KeptIsConsistent (K.kept result.keeper) }
@@ -185,14 +210,19 @@ pub fn run<S: Source, O: Sink, K: Keeper, P: Spool>(
 ) -> Ran<K>
     ensures status { IsAmong statuses result.status }
     ensures command { result.status ≡ 1 → is_play words.now ≡ false }
+    ensures usage { result.status ≡ 1 →
+        O.written out.new ≡ option_map (λ done. done ++ last_line_text LastLine.Usage) (O.written out.old) }
     ensures no_command { is_play words.now ≡ false → (result.keeper ≡ keeper) × ((result.status ≡ 1) ⊎ (result.status ≡ 4)) }
     ensures ended { result.status ≡ 0 → IfSome (S.remaining source.new) (λ bytes. bytes ≡ []) }
-    ensures bad_line { result.status ≡ 2 → IfSome (S.remaining source.old) (λ bytes.
-        (number : ℕ) × (column : ℕ) × GaveBadLine uncut bytes (S.remaining source.new) number column) }
+    ensures played { IfSome (S.remaining source.old) (λ bytes.
+        PlayedAs bytes (told_by (O.written out.old) (K.kept keeper) (K.faults keeper)) (S.remaining source.new)
+        result.status (told_by (O.written out.new) (K.kept result.keeper) (K.faults result.keeper))) }
     ensures source_fault { result.status ≡ 3 → HasRisen (S.faults source.old) (S.faults source.new) }
     ensures sink_fault { result.status ≡ 4 → HasRisen (O.faults out.old) (O.faults out.new) }
     ensures keeper_fault { result.status ≡ 5 → HasRisen (K.faults keeper) (K.faults result.keeper) }
     ensures not_empty { result.status ≡ 8 → IfSome (K.kept keeper) (λ kept. 0 < length kept.journal + length kept.rows) }
+    ensures refused { result.status ≡ 8 → (K.kept result.keeper ≡ K.kept keeper)
+        × (O.written out.new ≡ option_map (λ done. done ++ last_line_text LastLine.NotEmpty) (O.written out.old)) }
     ensures too_long { result.status ≡ 9 → GaveMore MAX_SCRIPT (S.remaining source.old) (S.remaining source.new) }
     ensures was_empty { IsAmong play_statuses result.status → KeptIsEmpty (K.kept keeper) }
     ensures consistent { KeptIsConsistent (K.kept keeper) → KeptIsConsistent (K.kept result.keeper) }

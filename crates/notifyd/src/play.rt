@@ -4,7 +4,7 @@ ghost use Rattle.chat_model.specs.Counts.{HasRisen};
 ghost use Rattle.notifyd.specs.Grammar.{reading};
 ghost use Rattle.std.specs.Option.{option_map};
 ghost use Rattle.notifyd.specs.Sink.{WritesFront};
-ghost use Rattle.notifyd.specs.Play.{world, IsStep, PlaysLine, AnswersLine, IsCounted, answer_text, is_keeper_fault, is_out_of_memory};
+ghost use Rattle.notifyd.specs.Play.{world, IsStep, PlaysLine, AnswersLine, IsCounted, standing, answer_text, is_keeper_fault, is_out_of_memory};
 
 use crate::Sink;
 use crate::line::{Column, Line, LineFault, read_line};
@@ -105,6 +105,7 @@ fn answer<K: Keeper>(
         HasRisen (K.faults play.old.office.keeper) (K.faults play.new.office.keeper) }
     ensures count { K.faults play.old.office.keeper ≤ K.faults play.new.office.keeper }
     ensures same { (play.new.line ≡ play.old.line) × (play.new.met ≡ play.old.met) }
+    ensures stays { OnErr result (play.new ≡ play.old) }
 {
     match read_line(alloc, bytes) {
         Ok(line) => Ok(step(play, line)),
@@ -159,10 +160,12 @@ pub fn play_line<K: Keeper, O: Sink>(
 ) -> Result<(), Stop>
     requires { play.old.line < 2 ^ 64 - 1 }
     ensures line { play.new.line ≡ play.old.line + 1 }
-    ensures answered { OnOk result (AnswersLine (world play.old.office.journal play.old.clock) bytes.now
-        (world play.new.office.journal play.new.clock) play.old.met play.new.met (O.written out.old) (O.written out.new)) }
+    ensures answered { OnOk result (AnswersLine (standing K.faults play.old (O.written out.old)) bytes.now
+        (standing K.faults play.new (O.written out.new))) }
     ensures bad { (number column : ℕ) → result ≡ Err (Stop.BadLine number column) →
         (number ≡ play.new.line) × (reading bytes.now ≡ Err column) }
+    ensures stays { (number column : ℕ) → result ≡ Err (Stop.BadLine number column) →
+        standing K.faults play.new (O.written out.new) ≡ standing K.faults play.old (O.written out.old) }
     ensures cause { result ≡ Err Stop.SinkFault → HasRisen (O.faults out.old) (O.faults out.new) }
     ensures count { O.faults out.old ≤ O.faults out.new }
     ensures keeper { IsCounted play.old.met play.new.met (K.faults play.old.office.keeper) (K.faults play.new.office.keeper) }

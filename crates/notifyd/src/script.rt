@@ -2,8 +2,9 @@
 ghost use Rattle.std.specs.Prelude.{◌≡◌, ◌≢◌, ℕ, ◌+◌, ◌-◌, ◌^◌, ◌<◌, ◌≤◌, List, [], length, take, drop, IfOk, IfErr, IfSome, OnOk, OnErr, Ok, Err, Some, vec_len};
 ghost use Rattle.std.specs.Vec.{vec_capacity};
 ghost use Rattle.chat_model.specs.Counts.{HasRisen};
-ghost use Rattle.notifyd.specs.Cut.{Cut, IsCutAt, IsBadLine, GaveBytes, GaveMore, GaveBadLine, uncut, cut_more, cut_on, cut_of, all_lines};
-ghost use Rattle.notifyd.specs.Play.{IsCounted};
+ghost use Rattle.notifyd.specs.Cut.{Cut, IsCutAt, GaveBytes, GaveMore, uncut, cut_more, cut_on, cut_of, all_lines};
+ghost use Rattle.notifyd.specs.Play.{IsCounted, AnswersLines, standing};
+ghost use Rattle.notifyd.specs.Answered.{AnswersRest, StopsAt, GaveBadLine, GaveLines};
 
 use crate::line::MAX_LINE;
 use crate::play::{Play, Stop, play_line};
@@ -48,8 +49,12 @@ fn play_byte<K: Keeper, O: Sink>(
     ensures room { vec_capacity line.new ≡ vec_capacity line.old }
     ensures cut { OnOk result ((cut : Cut) → IsCutAt cut play.old.line line.old.items →
         IsCutAt (cut_more cut byte) play.new.line line.new.items) }
+    ensures answered { OnOk result ((cut : Cut) → IsCutAt cut play.old.line line.old.items →
+        AnswersRest cut.lines (cut_more cut byte).lines (standing K.faults play.old (O.written out.old))
+        (standing K.faults play.new (O.written out.new))) }
     ensures bad { (number column : ℕ) → result ≡ Err (Stop.BadLine number column) → (cut : Cut) →
-        IsCutAt cut play.old.line line.old.items → IsBadLine (cut_more cut byte).lines number column }
+        IsCutAt cut play.old.line line.old.items → StopsAt cut.lines (cut_more cut byte).lines number column
+        (standing K.faults play.old (O.written out.old)) (standing K.faults play.new (O.written out.new)) }
     ensures cause { result ≡ Err Stop.SinkFault → HasRisen (O.faults out.old) (O.faults out.new) }
     ensures count { O.faults out.old ≤ O.faults out.new }
     ensures keeper { IsCounted play.old.met play.new.met (K.faults play.old.office.keeper) (K.faults play.new.office.keeper) }
@@ -80,8 +85,12 @@ fn play_piece<K: Keeper, O: Sink>(
     ensures room { vec_capacity line.new ≡ vec_capacity line.old }
     ensures cut { OnOk result ((cut : Cut) → IsCutAt cut play.old.line line.old.items →
         IsCutAt (cut_on cut piece.now) play.new.line line.new.items) }
+    ensures answered { OnOk result ((cut : Cut) → IsCutAt cut play.old.line line.old.items →
+        AnswersRest cut.lines (cut_on cut piece.now).lines (standing K.faults play.old (O.written out.old))
+        (standing K.faults play.new (O.written out.new))) }
     ensures bad { (number column : ℕ) → result ≡ Err (Stop.BadLine number column) → (cut : Cut) →
-        IsCutAt cut play.old.line line.old.items → IsBadLine (cut_on cut piece.now).lines number column }
+        IsCutAt cut play.old.line line.old.items → StopsAt cut.lines (cut_on cut piece.now).lines number column
+        (standing K.faults play.old (O.written out.old)) (standing K.faults play.new (O.written out.new)) }
     ensures cause { result ≡ Err Stop.SinkFault → HasRisen (O.faults out.old) (O.faults out.new) }
     ensures count { O.faults out.old ≤ O.faults out.new }
     ensures keeper { IsCounted play.old.met play.new.met (K.faults play.old.office.keeper) (K.faults play.new.office.keeper) }
@@ -101,8 +110,12 @@ fn play_last<K: Keeper, O: Sink>(
 ) -> Ending
     requires { play.old.line < 2 ^ 64 - 1 }
     ensures neither { (result ≢ Ending.SourceFault) × (result ≢ Ending.TooLong) }
+    ensures answered { result ≡ Ending.InputEnded → (cut : Cut) → IsCutAt cut play.old.line line.now →
+        AnswersRest cut.lines (all_lines cut) (standing K.faults play.old (O.written out.old))
+        (standing K.faults play.new (O.written out.new)) }
     ensures bad { (number column : ℕ) → result ≡ Ending.Stopped (Stop.BadLine number column) → (cut : Cut) →
-        IsCutAt cut play.old.line line.now → IsBadLine (all_lines cut) number column }
+        IsCutAt cut play.old.line line.now → StopsAt cut.lines (all_lines cut) number column
+        (standing K.faults play.old (O.written out.old)) (standing K.faults play.new (O.written out.new)) }
     ensures cause { result ≡ Ending.Stopped Stop.SinkFault → HasRisen (O.faults out.old) (O.faults out.new) }
     ensures count { O.faults out.old ≤ O.faults out.new }
     ensures keeper { IsCounted play.old.met play.new.met (K.faults play.old.office.keeper) (K.faults play.new.office.keeper) }
@@ -136,12 +149,26 @@ fn play_next<K: Keeper, S: Source, O: Sink>(
     ensures gave { IfOk result (λ count. GaveBytes count (S.remaining source.old) (S.remaining source.new)) }
     ensures cut { IfOk result (λ count. (bytes : List ℕ) → S.remaining source.old ≡ Some bytes → (cut : Cut) →
         IsCutAt cut play.old.line line.old.items → IsCutAt (cut_on cut (take count bytes)) play.new.line line.new.items) }
+    ensures answered { IfOk result (λ count. (bytes : List ℕ) → S.remaining source.old ≡ Some bytes → (cut : Cut) →
+        IsCutAt cut play.old.line line.old.items → AnswersRest cut.lines (cut_on cut (take count bytes)).lines
+        (standing K.faults play.old (O.written out.old)) (standing K.faults play.new (O.written out.new))) }
 
     ensures ended { result ≡ Err Ending.InputEnded → IfSome (S.remaining source.new) (λ bytes. bytes ≡ []) }
+    ensures none_left { result ≡ Err Ending.InputEnded → IfSome (S.remaining source.old) (λ bytes. bytes ≡ []) }
+    ensures told_still { result ≡ Err Ending.InputEnded → S.remaining source.new ≡ S.remaining source.old }
+    ensures stays { result ≡ Err Ending.SourceFault → (S.remaining source.new ≡ S.remaining source.old)
+        × (standing K.faults play.new (O.written out.new) ≡ standing K.faults play.old (O.written out.old)) }
+    ensures answered_long { result ≡ Err Ending.TooLong → (bytes : List ℕ) → S.remaining source.old ≡ Some bytes →
+        (cut : Cut) → IsCutAt cut play.old.line line.old.items → AnswersRest cut.lines (cut_on cut (take allowed bytes)).lines
+        (standing K.faults play.old (O.written out.old)) (standing K.faults play.new (O.written out.new)) }
+    ensures answered_last { result ≡ Err Ending.InputEnded → (cut : Cut) →
+        IsCutAt cut play.old.line line.old.items → AnswersRest cut.lines (all_lines cut)
+        (standing K.faults play.old (O.written out.old)) (standing K.faults play.new (O.written out.new)) }
     ensures more { result ≡ Err Ending.TooLong → GaveMore allowed (S.remaining source.old) (S.remaining source.new) }
     ensures bad { (number column : ℕ) → result ≡ Err (Ending.Stopped (Stop.BadLine number column)) →
         (bytes : List ℕ) → S.remaining source.old ≡ Some bytes → (cut : Cut) →
-        IsCutAt cut play.old.line line.old.items → GaveBadLine cut bytes (S.remaining source.new) number column }
+        IsCutAt cut play.old.line line.old.items → GaveBadLine cut bytes (S.remaining source.new) number column
+        (standing K.faults play.old (O.written out.old)) (standing K.faults play.new (O.written out.new)) }
     ensures source_cause { result ≡ Err Ending.SourceFault → HasRisen (S.faults source.old) (S.faults source.new) }
     ensures source_count { S.faults source.old ≤ S.faults source.new }
     ensures sink_cause { result ≡ Err (Ending.Stopped Stop.SinkFault) → HasRisen (O.faults out.old) (O.faults out.new) }
@@ -178,9 +205,18 @@ pub fn play_source<K: Keeper, S: Source, O: Sink>(
     requires room { MAX_LINE < vec_capacity line.old }
 
     ensures ended { result ≡ Ending.InputEnded → IfSome (S.remaining source.new) (λ bytes. bytes ≡ []) }
+    ensures answered { result ≡ Ending.InputEnded → IfSome (S.remaining source.old) (λ bytes.
+        (S.remaining source.new ≡ Some [])
+        × AnswersLines (standing K.faults play.old (O.written out.old)) (all_lines (cut_of bytes)) (standing K.faults play.new (O.written out.new))) }
+    ensures answered_long { result ≡ Ending.TooLong → IfSome (S.remaining source.old) (λ bytes.
+        AnswersLines (standing K.faults play.old (O.written out.old)) (cut_of (take MAX_SCRIPT bytes)).lines
+        (standing K.faults play.new (O.written out.new))) }
+    ensures answered_fault { result ≡ Ending.SourceFault → IfSome (S.remaining source.old) (λ bytes.
+        GaveLines bytes (S.remaining source.new) (standing K.faults play.old (O.written out.old)) (standing K.faults play.new (O.written out.new))) }
     ensures more { result ≡ Ending.TooLong → GaveMore MAX_SCRIPT (S.remaining source.old) (S.remaining source.new) }
     ensures bad { (number column : ℕ) → result ≡ Ending.Stopped (Stop.BadLine number column) →
-        IfSome (S.remaining source.old) (λ bytes. GaveBadLine uncut bytes (S.remaining source.new) number column) }
+        IfSome (S.remaining source.old) (λ bytes. GaveBadLine uncut bytes (S.remaining source.new) number column
+        (standing K.faults play.old (O.written out.old)) (standing K.faults play.new (O.written out.new))) }
     ensures source_cause { result ≡ Ending.SourceFault → HasRisen (S.faults source.old) (S.faults source.new) }
     ensures source_count { S.faults source.old ≤ S.faults source.new }
     ensures sink_cause { result ≡ Ending.Stopped Stop.SinkFault → HasRisen (O.faults out.old) (O.faults out.new) }
