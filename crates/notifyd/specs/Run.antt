@@ -9,7 +9,7 @@ use Rattle.notifyd.specs.declared.reply.Reply.TheVariants.{KeeperFault, OutOfMem
 use Rattle.notifyd.specs.declared.last_line.LastLine.TheVariants.{BadLine}
 use Rattle.notifyd.specs.Reply.{reply_text}
 use Rattle.notifyd.specs.LastLine.{last_line_text}
-use Rattle.notifyd.specs.Cut.{IsBadLine, GaveBytes, cut_of, all_lines}
+use Rattle.notifyd.specs.Cut.{IsBadLine, IsWholeLine, GaveBytes, cut_of, all_lines}
 use Rattle.notifyd.specs.Play.{World, world, PlaysLines, HaveRisen, answer_text, is_keeper_fault, is_out_of_memory}
 use Rattle.notifyd.specs.Status.{status_met}
 
@@ -46,14 +46,15 @@ pub record PlayedToEnd (bytes : List ℕ) (before : Told) (left : Option (List �
   pub ended : IfSome left (λ rest. rest ≡ [])
   pub exit : status ≡ status_met (list_any is_keeper_fault replies) (list_any is_out_of_memory replies)
 
--- the lines before a bad one were played: the text of their replies was written, and then the bad line's number and
--- column
+-- the lines before a bad one, which is complete or the last of all, were played: the text of their replies was written,
+-- and then the bad line's number and column
 pub record PlayedToBadLine (bytes : List ℕ) (before : Told) (left : Option (List ℕ)) (now : Told) : Type 0 where
   pub count : ℕ
   pub gave : GaveBytes count (Some bytes) left
   pub number : ℕ
   pub column : ℕ
   pub bad : IsBadLine (all_lines (cut_of (take count bytes))) number column
+  pub whole : IsWholeLine (cut_of (take count bytes)) number left
   pub replies : List (Option Reply)
   pub play : IsPlayOf (take (number - 1) (all_lines (cut_of (take count bytes)))) replies before now
   pub written : Wrote (flat_map answer_text replies ++ last_line_text (BadLine number column)) before now
