@@ -1,17 +1,19 @@
 -- What a run of `play` read, wrote and kept.
-use Rattle.std.specs.Prelude.{◌≡◌, ℕ, ◌-◌, List, [], ◌∷◌, ◌++◌, take, count_by, Option, Some, IfSome, option_map, ◌⊎◌}
-use Rattle.std.specs.List.{list_any, flat_map}
+use Rattle.std.specs.Prelude.{◌≡◌, ℕ, ◌-◌, ◌≤◌, List, [], ◌∷◌, ◌++◌, length, take, count_by, Option, Some, IfSome, IsSome, IsOk, option_map, ◌⊎◌}
+use Rattle.std.specs.List.{list_any, flat_map, AllByRecursion}
+use Rattle.chat_model.specs.Counts.{HasRisen}
 use Rattle.chat_model.specs.declared.event.Event.TheVariants.{Restart}
 use Rattle.keeper.specs.declared.keeper.Kept.{Kept}
 use Rattle.office.specs.Office.{KeptStandsFor}
 use Rattle.notifyd.specs.declared.reply.Reply.{Reply}
 use Rattle.notifyd.specs.declared.reply.Reply.TheVariants.{KeeperFault, OutOfMemory}
 use Rattle.notifyd.specs.declared.last_line.LastLine.TheVariants.{BadLine}
+use Rattle.notifyd.specs.Grammar.{reading}
 use Rattle.notifyd.specs.Reply.{reply_text}
 use Rattle.notifyd.specs.LastLine.{last_line_text}
 use Rattle.notifyd.specs.Cut.{IsBadLine, IsWholeLine, GaveBytes, cut_of, all_lines}
 use Rattle.notifyd.specs.Play.{World, world, PlaysLines, HaveRisen, answer_text, is_keeper_fault, is_out_of_memory}
-use Rattle.notifyd.specs.Status.{status_met}
+use Rattle.notifyd.specs.Status.{status_met, KeptIsEmpty}
 
 -- what the devices of a run tell: the bytes written, what is kept, and how often the keeper failed
 pub record Told : Type 0 where
@@ -68,3 +70,33 @@ pub record StartFailed (source : Option (List ℕ)) (before : Told) (left : Opti
   pub unread : left ≡ source
   pub exit : status ≡ status_met (is_keeper_fault (Some reply)) (is_out_of_memory (Some reply))
   pub risen : HaveRisen (count_by is_keeper_fault (Some reply ∷ [])) before.faults now.faults
+
+-- a script of which every line can be read, and which has at most so many bytes
+pub record IsReadable (most : ℕ) (script : List ℕ) : Type 0 where
+  pub within : length script ≤ most
+  pub lines : AllByRecursion (λ line. IsOk (reading line)) (all_lines (cut_of script))
+
+-- how often the source, the sink and the keeper failed
+pub record Faults : Type 0 where
+  pub source : ℕ
+  pub sink : ℕ
+  pub keeper : ℕ
+
+abbrev pub faults_of : ℕ → ℕ → ℕ → Faults
+faults_of source sink keeper = record { source = source; sink = sink; keeper = keeper }
+
+-- none of the three failed since
+pub record NoneFailed (before now : Faults) : Type 0 where
+  pub source : ¬ HasRisen before.source now.source
+  pub sink : ¬ HasRisen before.sink now.sink
+  pub keeper : ¬ HasRisen before.keeper now.keeper
+
+-- the source tells a readable script of at most so many bytes, the keeper tells that it keeps nothing, and neither the
+-- source nor the sink nor the keeper failed since
+pub record GoesWell (most : ℕ) (source : Option (List ℕ)) (kept : Option Kept) (before now : Faults) : Type 0 where
+  pub script : List ℕ
+  pub tells : source ≡ Some script
+  pub readable : IsReadable most script
+  pub keeper_tells : IsSome kept
+  pub empty : KeptIsEmpty kept
+  pub none_failed : NoneFailed before now
