@@ -1,11 +1,12 @@
 -- What a source gave at one read after another.
-use Rattle.std.proofs.Common.{◌≡◌, ℕ, ◌+◌, ◌-◌, ◌≤◌, List, [], ◌++◌, length, take, drop, Option, Some, None, refl, sym, ap, ◌∙◌, subst, length-drop, take-append-drop, arith}
+use Rattle.std.proofs.Common.{◌≡◌, ℕ, ◌+◌, ◌-◌, ◌≤◌, inl, inr, List, [], ◌++◌, length, take, drop, Option, Some, None, refl, sym, ap, ◌∙◌, subst, length-drop, take-append-drop, arith}
 use Rattle.std.specs.Prelude.{IfSome, option_map}
 use Rattle.std.proofs.Math.Seq.{take-add}
 use Rattle.std.proofs.lemmas.List.{drop-drop, take-take}
+use Rattle.std.proofs.lemmas.Option.{slice_get_within}
 use Rattle.notifyd.specs.Device.{GivesNext}
 use Rattle.std.proofs.lemmas.List.{append-nil}
-use Rattle.notifyd.specs.Cut.{Cut, IsCutAt, GaveBytes, GaveMore, uncut, cut_on, cut_of, all_lines, last_line}
+use Rattle.notifyd.specs.Cut.{Cut, IsCutAt, IsBadLine, IsWholeLine, GaveBytes, GaveMore, uncut, cut_on, cut_of, all_lines, last_line}
 use Rattle.notifyd.specs.Play.{Standing, AnswersLines}
 use Rattle.notifyd.specs.Answered.{AnswersRest, StopsAt, GaveBadLine, GaveLines}
 use Rattle.notifyd.proofs.CutLemmas.{cut_on-append}
@@ -57,6 +58,9 @@ pub GaveBadLine-then : (a b c : Standing) (m : ℕ) (bytes : List ℕ) (after : 
 GaveBadLine-then a b c m bytes after number column h p q = record {
   count = m + q.count;
   gave = GaveBytes-then m q.count (Some bytes) (Some (drop m bytes)) after (record { within = h; left = refl }) q.gave;
+  whole =
+      let P : Cut → Type 0 = λ cut. IsWholeLine cut number after in
+      subst P (sym (cut_on-append uncut (take m bytes) (take q.count (drop m bytes))) ∙ ap cut_of (sym (take-add m q.count bytes))) q.whole;
   stops =
       let P : Cut → Type 0 = λ cut. StopsAt [] (all_lines cut) number column a c in
       subst P (sym (cut_on-append uncut (take m bytes) (take q.count (drop m bytes))) ∙ ap cut_of (sym (take-add m q.count bytes))) (StopsAt-then a b c _ _ _ number column p q.stops);
@@ -68,23 +72,34 @@ unfolding cut_on
 GaveBadLine-ended a b cut bytes piece after count number column none given left stops = record {
   count = 0;
   gave = record { within = omega arith; left = left ∙ ap (λ n. option_map (λ rest. drop n rest) (Some bytes)) none };
+  whole =
+      let nothing : after ≡ Some [] = left ∙ ap (λ n. option_map (λ rest. drop n rest) (Some bytes)) none ∙ ap Some (given.ended none) in
+      let P : Option (List ℕ) → Type 0 = λ it. IfSome it (λ rest. rest ≡ []) in
+      inr (subst P (sym nothing) refl);
   stops = stops;
 }
 
+-- a bad line is one of its lines
+IsBadLine-within : (lines : List (List ℕ)) (number column : ℕ) → IsBadLine lines number column → number ≤ length lines
+IsBadLine-within lines number column b =
+    let within = slice_get_within lines (number - 1) b.line b.there in
+    omega (arith, within, b.counted)
+
 -- a bad line within the piece that was read
 pub GaveBadLine-within : (a b : Standing) (cut : Cut) (bytes piece : List ℕ) (after : Option (List ℕ)) (count within number column : ℕ) → within ≤ count → GivesNext count bytes piece → after ≡ option_map (λ rest. drop count rest) (Some bytes) → StopsAt cut.lines (cut_on cut (take within piece)).lines number column a b → GaveBadLine cut bytes after number column a b
-GaveBadLine-within a b cut bytes piece after count within number column h given left stops = record {
-  count = count;
-  gave = record { within = given.within; left = left };
-  stops =
-      let P : List ℕ → Type 0 = λ front. StopsAt cut.lines (cut_on cut front).lines number column a b in
-      let same : take within piece ≡ take within (take count bytes) = sym (take-take within count piece h) ∙ ap (take within) given.bytes in
-      let here = subst P same stops in
-      let there = StopsAt-on a b cut.lines (cut_on cut (take within (take count bytes))) (drop within (take count bytes)) number column here in
-      let Q : Cut → Type 0 = λ at. StopsAt cut.lines at.lines number column a b in
-      let all = subst Q (sym (cut_on-append cut (take within (take count bytes)) (drop within (take count bytes))) ∙ ap (cut_on cut) (take-append-drop within (take count bytes))) there in
-      StopsAt-front a b cut.lines _ (last_line (cut_on cut (take count bytes)).rest) number column all;
-}
+GaveBadLine-within a b cut bytes piece after count within number column h given left stops =
+    let P : List ℕ → Type 0 = λ front. StopsAt cut.lines (cut_on cut front).lines number column a b in
+    let same : take within piece ≡ take within (take count bytes) = sym (take-take within count piece h) ∙ ap (take within) given.bytes in
+    let here = subst P same stops in
+    let there = StopsAt-on a b cut.lines (cut_on cut (take within (take count bytes))) (drop within (take count bytes)) number column here in
+    let Q : Cut → Type 0 = λ at. StopsAt cut.lines at.lines number column a b in
+    let all = subst Q (sym (cut_on-append cut (take within (take count bytes)) (drop within (take count bytes))) ∙ ap (cut_on cut) (take-append-drop within (take count bytes))) there in
+    record {
+      count = count;
+      gave = record { within = given.within; left = left };
+      whole = inl (IsBadLine-within _ _ _ all.bad);
+      stops = StopsAt-front a b cut.lines _ (last_line (cut_on cut (take count bytes)).rest) number column all;
+    }
 
 -- the lines that are complete within what is allowed
 pub AnswersRest-allowed : (a b : Standing) (cut : Cut) (bytes piece : List ℕ) (count within allowed : ℕ) → within ≡ allowed → within ≤ count → GivesNext count bytes piece → AnswersRest cut.lines (cut_on cut (take within piece)).lines a b → AnswersRest cut.lines (cut_on cut (take allowed bytes)).lines a b

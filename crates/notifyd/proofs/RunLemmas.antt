@@ -65,6 +65,7 @@ PlayedToBadLine-from before now a b bytes left number column fresh closed p writ
       number = number;
       column = column;
       bad = p.stops.bad;
+      whole = p.whole;
       replies = answered.replies;
       play = play_of before now a b lines fresh closed answered;
       written = written ∙ ap (option_map (λ done. done ++ last_line_text (BadLine number column))) (answered.written ∙ ap (option_map (λ done. done ++ flat_map answer_text answered.replies)) fresh.written) ∙ and_then before.written (flat_map answer_text answered.replies) (last_line_text (BadLine number column));

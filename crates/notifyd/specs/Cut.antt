@@ -1,5 +1,5 @@
 -- The lines of a script, cut from its bytes.
-use Rattle.std.specs.Prelude.{◌≡◌, ℕ, ◌-◌, ◌<◌, ◌≤◌, ◌==◌, ◌||◌, Bool, List, [], ◌∷◌, ◌++◌, length, drop, nat_lt, fold, slice_get, Some, Option, option_map, IfSome, if◌then◌else◌, Err}
+use Rattle.std.specs.Prelude.{◌≡◌, ℕ, ◌-◌, ◌<◌, ◌≤◌, ◌==◌, ◌||◌, ◌⊎◌, Bool, List, [], ◌∷◌, ◌++◌, length, drop, nat_lt, fold, slice_get, Some, Option, option_map, IfSome, if◌then◌else◌, Err}
 use Rattle.notifyd.specs.Grammar.{reading, max_line}
 
 -- the most bytes that a script may have
@@ -58,6 +58,10 @@ pub record IsCutAt (cut : Cut) (number : ℕ) (under_way : List ℕ) : Type 0 wh
 pub record GaveBytes (count : ℕ) (before after : Option (List ℕ)) : Type 0 where
   pub within : IfSome before (λ bytes. count ≤ length bytes)
   pub left : after ≡ option_map (λ bytes. drop count bytes) before
+
+-- the line of this number is complete, or the source was read to its end
+abbrev pub IsWholeLine : Cut → ℕ → Option (List ℕ) → Type 0
+IsWholeLine cut number left = (number ≤ length cut.lines) ⊎ IfSome left (λ rest. rest ≡ [])
 
 -- the source gave more bytes than so many
 pub record GaveMore (most : ℕ) (before after : Option (List ℕ)) : Type 0 where

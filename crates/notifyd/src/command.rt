@@ -7,7 +7,7 @@ ghost use Rattle.notifyd.specs.Reply.{reply_text};
 ghost use Rattle.notifyd.specs.LastLine.{last_line_text};
 ghost use Rattle.notifyd.specs.Cut.{GaveMore};
 ghost use Rattle.notifyd.specs.Play.{world};
-ghost use Rattle.notifyd.specs.Run.{told_by, started, PlayedAs};
+ghost use Rattle.notifyd.specs.Run.{told_by, faults_of, started, PlayedAs, GoesWell};
 ghost use Rattle.notifyd.specs.Status.{is_play, IsAmong, statuses, status_met, play_statuses, KeptIsEmpty, KeptIsConsistent, KeptIsConserved};
 
 use crate::last_line::{LastLine, write_last_line};
@@ -224,6 +224,10 @@ pub fn run<S: Source, O: Sink, K: Keeper, P: Spool>(
     ensures refused { result.status ≡ 8 → (K.kept result.keeper ≡ K.kept keeper)
         × (O.written out.new ≡ option_map (λ done. done ++ last_line_text LastLine.NotEmpty) (O.written out.old)) }
     ensures too_long { result.status ≡ 9 → GaveMore MAX_SCRIPT (S.remaining source.old) (S.remaining source.new) }
+    ensures complete { is_play words.now ≡ true → GoesWell MAX_SCRIPT (S.remaining source.old) (K.kept keeper)
+        (faults_of (S.faults source.old) (O.faults out.old) (K.faults keeper))
+        (faults_of (S.faults source.new) (O.faults out.new) (K.faults result.keeper)) →
+        (result.status ≡ 0) ⊎ (result.status ≡ 7) }
     ensures was_empty { IsAmong play_statuses result.status → KeptIsEmpty (K.kept keeper) }
     ensures consistent { KeptIsConsistent (K.kept keeper) → KeptIsConsistent (K.kept result.keeper) }
     ensures conserved { KeptIsEmpty (K.kept keeper) ⊎ KeptIsConserved (K.kept keeper) → KeptIsConserved (K.kept result.keeper) }
