@@ -11,3 +11,4 @@ pub mod AnswerLemmas
 pub mod GaveLemmas
 pub mod KeptLemmas
 pub mod RunLemmas
+pub mod ShownLemmas
