@@ -12,3 +12,4 @@ pub mod GaveLemmas
 pub mod KeptLemmas
 pub mod RunLemmas
 pub mod CompleteLemmas
+pub mod ShownLemmas

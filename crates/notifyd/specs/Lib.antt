@@ -13,6 +13,7 @@ pub mod Grammar
 pub mod Fault
 pub mod Cut
 pub mod Play
+pub mod Shown
 pub mod Answered
 pub mod Status
 pub mod Run

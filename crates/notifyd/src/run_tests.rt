@@ -31,10 +31,10 @@ fn list_of(alloc: Global, numbers: &[u64]) -> Result<List<u64>, AllocError> {
     Ok(List::from(Vec::from_slice(alloc, numbers)?))
 }
 
-// Runs `play` on the script in pieces of so many bytes, and compares what is written and the status.
-fn expect_play<R: Abort + AllocGlobal>(
+// Runs `play` on the bytes in pieces of so many, and compares what is written and the status.
+fn expect_run<R: Abort + AllocGlobal>(
     rt: &R,
-    script: &str,
+    bytes: List<u8>,
     piece: usize,
     failing: &Failing<'_>,
     written: &str,
@@ -44,7 +44,6 @@ fn expect_play<R: Abort + AllocGlobal>(
 {
     let alloc = rt.alloc();
     let words = vec![in alloc; Text::from_str(alloc, "play")?]?;
-    let bytes = List::from(Vec::from_slice(alloc, script.as_bytes())?);
     let mut source = MemorySource::new(bytes, piece, list_of(alloc, failing.source)?);
     let mut sink = MemorySink::new(alloc, 4_096, list_of(alloc, failing.sink)?)?;
     let keeper = MemoryKeeper::new(alloc, list_of(alloc, failing.keeper)?);
@@ -60,6 +59,20 @@ fn expect_play<R: Abort + AllocGlobal>(
     assert_eq!(rt; sink.bytes(), written.as_bytes());
     assert_eq!(rt; ran.status, status);
     Ok(())
+}
+
+fn expect_play<R: Abort + AllocGlobal>(
+    rt: &R,
+    script: &str,
+    piece: usize,
+    failing: &Failing<'_>,
+    written: &str,
+    status: u8,
+) -> Result<(), Fail>
+    requires { 1 ≤ piece }
+{
+    let bytes = List::from(Vec::from_slice(rt.alloc(), script.as_bytes())?);
+    expect_run(rt, bytes, piece, failing, written, status)
 }
 
 #[test]
@@ -192,4 +205,46 @@ fn a_keeper_that_keeps_something_is_not_started_over(rt: HostRuntime) -> Result<
     assert_eq!(rt; again.status, 8);
     assert_eq!(rt; sink.bytes(), b"not empty\n".as_slice());
     Ok(())
+}
+
+fn push_repeated(bytes: &mut Vec<u8>, byte: u8, count: usize) -> Result<(), AllocError> {
+    for _ in 0..count {
+        bytes.push(byte)?;
+    }
+    Ok(())
+}
+
+#[test]
+fn a_line_across_two_pieces_is_one_line(rt: HostRuntime) -> Result<(), Fail> {
+    let alloc = rt.alloc();
+    let mut script = Vec::new(alloc);
+    push_repeated(&mut script, b'#', 4_090)?;
+    script.extend_from_slice(b"\nuser \"Ada\"\n")?;
+    expect_run(&rt, List::from(script), 4_096, &NEVER, "user 1\n", 0)
+}
+
+#[test]
+fn a_line_may_have_131072_bytes(rt: HostRuntime) -> Result<(), Fail> {
+    let alloc = rt.alloc();
+    let mut longest = Vec::new(alloc);
+    push_repeated(&mut longest, b'#', 131_072)?;
+    longest.extend_from_slice(b"\nuser \"Ada\"\n")?;
+    expect_run(&rt, List::from(longest), 4_096, &NEVER, "user 1\n", 0)?;
+    let mut too_long = Vec::new(alloc);
+    push_repeated(&mut too_long, b'#', 131_073)?;
+    let written = "bad line 1 column 131073\n";
+    expect_run(&rt, List::from(too_long), 4_096, &NEVER, written, 2)
+}
+
+#[test]
+fn a_script_may_have_67108864_bytes(rt: HostRuntime) -> Result<(), Fail> {
+    let alloc = rt.alloc();
+    let mut script = Vec::new(alloc);
+    script.extend_from_slice(b"user \"Ada\"\n")?;
+    for _ in 0..1_024 {
+        push_repeated(&mut script, b'#', 65_535)?;
+        script.push(b'\n')?;
+    }
+    let written = "user 1\nscript too long\n";
+    expect_run(&rt, List::from(script), 4_096, &NEVER, written, 9)
 }

@@ -1,0 +1,137 @@
+-- Each step is shown: its line has one output line or none, and the line gives the mark.
+use Rattle.std.proofs.Common.{◌≡◌, ℕ, zero, suc, ◌+◌, ◌-◌, length, ◌/◌, ◌%◌, ◌==◌, Bool, true, false, ◌||◌, cond, List, [], ◌∷◌, ◌++◌, Option, Some, None, refl, sym, ap, ◌∙◌, is_some, arith, nat_lt}
+use Rattle.std.specs.Prelude.{IfSome, if◌then◌else◌, codes, decimal, nat_le}
+use Rattle.std.specs.Fmt.{digits, digits_onto, digit_glyph}
+use Rattle.std.specs.List.{list_any}
+use Rattle.std.proofs.lemmas.List.Folds.{list_any-append}
+use Rattle.std.proofs.lemmas.Bool.{ne_eqb}
+use Rattle.chat_model.specs.declared.counts.Counts.{Counts}
+use Rattle.chat_model.specs.declared.request.Request.{Request}
+use Rattle.chat_model.specs.declared.request.Refusal.{Refusal}
+use Rattle.chat_model.specs.declared.request.Answer.TheVariants.{User, Channel, Sent, Done}
+use Rattle.office.specs.declared.answer.MailAnswer.TheVariants.{Mailed, NotDue}
+use Rattle.chat_model.specs.declared.event.Event.TheVariants as event
+use Rattle.notice_ledger.specs.Due.{DueUser, first_due, batch_rows}
+use Rattle.notice_ledger.specs.Outbox.{mail_entries}
+use Rattle.notice_ledger.specs.Lawful.{refusal}
+use Rattle.notifyd.specs.Words.{answer_words, mail_words, account_words, count_words, refusal_number}
+use Rattle.notifyd.specs.Play.{World, Mark, Step, step, asked_unless, mailed_for, MayHave, IsStep, PlaysLines, mark_of, stamp_now, with_event}
+use Rattle.notifyd.specs.Play.Mark.{Clean, NoMemory, KeeperFault}
+use Rattle.notifyd.specs.Shown.{has_output, has_line_feed, IsOneLine, GivesMark, IsShown, AreShown}
+use Rattle.notifyd.specs.declared.line.Line.{Line}
+use Rattle.notifyd.specs.declared.line.Line.TheVariants as line
+use Rattle.notifyd.specs.declared.reply.Reply.{Reply}
+use Rattle.notifyd.specs.declared.reply.Reply.TheVariants as reply
+
+join : (xs ys : List ℕ) → has_line_feed xs ≡ false → has_line_feed ys ≡ false → has_line_feed (xs ++ ys) ≡ false
+join xs ys h k = list_any-append (λ byte. byte == 10) xs ys ∙ (ap (λ b. b || has_line_feed ys) h ∙ k)
+
+glyph_apart : (d : ℕ) → (digit_glyph false d == 10) ≡ false
+glyph_apart d =
+    elim (nat_lt d 10) as (λ b. ((if b then 48 + d else 87 + d) == 10) ≡ false) [
+      | true ↦ ne_eqb (48 + d) 10 (λ e. omega (arith, e))
+      | false ↦ ne_eqb (87 + d) 10 (λ e. omega (arith, e))
+    ]
+
+one_more : (d : ℕ) (acc : List ℕ) → has_line_feed acc ≡ false → has_line_feed (digit_glyph false d ∷ acc) ≡ false
+one_more d acc h = ap (λ b. b || has_line_feed acc) (glyph_apart d) ∙ h
+
+digits_plain : (k n : ℕ) (acc : List ℕ) → has_line_feed acc ≡ false → has_line_feed (digits_onto k 10 false n acc) ≡ false
+digits_plain zero n acc h = h
+digits_plain (suc k) n acc h =
+    elim (n / 10 == 0) as (λ b. has_line_feed (if b then digit_glyph false (n % 10) ∷ acc else digits_onto k 10 false (n / 10) (digit_glyph false (n % 10) ∷ acc)) ≡ false) [
+      | true ↦ one_more (n % 10) acc h
+      | false ↦ digits_plain k (n / 10) (digit_glyph false (n % 10) ∷ acc) (one_more (n % 10) acc h)
+    ]
+
+-- a number is written without a line feed
+decimal_plain : (n : ℕ) → has_line_feed (decimal n) ≡ false
+unfolding digits
+decimal_plain n = digits_plain 64 n [] refl
+
+-- words and a number behind what has no line feed
+with_number : (xs words : List ℕ) (n : ℕ) → has_line_feed xs ≡ false → has_line_feed words ≡ false → has_line_feed (xs ++ words ++ decimal n) ≡ false
+with_number xs words n h k = join (xs ++ words) (decimal n) (join xs words h k) (decimal_plain n)
+
+accounts_plain : (c : Counts) → has_line_feed (account_words c) ≡ false
+unfolding account_words
+accounts_plain c =
+    let flight = codes "flight=" ++ decimal c.flight in
+    let held = flight ++ codes " held=" ++ decimal c.held in
+    let ready = held ++ codes " ready=" ++ decimal c.ready in
+    let handed = ready ++ codes " handed=" ++ decimal c.handed in
+    let read = handed ++ codes " read=" ++ decimal c.read in
+    let deleted = read ++ codes " deleted=" ++ decimal c.deleted in
+    let off = deleted ++ codes " off=" ++ decimal c.off in
+    with_number off (codes " live=") c.live (with_number deleted (codes " off=") c.off (with_number read (codes " deleted=") c.deleted (with_number handed (codes " read=") c.read (with_number ready (codes " handed=") c.handed (with_number held (codes " ready=") c.ready (with_number flight (codes " held=") c.held (decimal_plain c.flight) refl) refl) refl) refl) refl) refl) refl
+
+counts_plain : (c : Counts) → has_line_feed (count_words c) ≡ false
+counts_plain c =
+    let accounts = codes "audit " ++ account_words c in
+    let entries = accounts ++ codes " entries=" ++ decimal c.entries in
+    let waiting = entries ++ codes " waiting=" ++ decimal c.waiting in
+    with_number waiting (codes " written=") c.written (with_number entries (codes " waiting=") c.waiting (with_number accounts (codes " entries=") c.entries (accounts_plain c) refl) refl) refl
+
+one_line : (text words : List ℕ) → text ≡ words ++ 10 ∷ [] → has_line_feed words ≡ false → IsOneLine text
+one_line text words e h = record { words = words; ended = e; single = h }
+
+pub gives-mark : (answer : Reply) → GivesMark answer
+gives-mark (reply.Answer (User user)) = record { one_line = one_line _ (answer_words (User user)) refl (decimal_plain user.0); mark = refl }
+gives-mark (reply.Answer (Channel channel)) = record { one_line = one_line _ (answer_words (Channel channel)) refl (decimal_plain channel.0); mark = refl }
+gives-mark (reply.Answer (Sent message deal)) = record { one_line = one_line _ (answer_words (Sent message deal)) refl (with_number (codes "sent " ++ decimal message.0) (codes " deal ") deal.0 (decimal_plain message.0) refl); mark = refl }
+gives-mark (reply.Answer Done) = record { one_line = one_line _ (answer_words Done) refl refl; mark = refl }
+gives-mark (reply.Mail (Mailed user entries dropped)) = record { one_line = one_line _ (mail_words (Mailed user entries dropped)) refl (with_number (codes "mailed " ++ decimal user.0 ++ codes " entries=" ++ decimal entries) (codes " dropped=") dropped (with_number (codes "mailed " ++ decimal user.0) (codes " entries=") entries (decimal_plain user.0) refl) refl); mark = refl }
+gives-mark (reply.Mail (NotDue (Some moment))) = record { one_line = one_line _ (mail_words (NotDue (Some moment))) refl (decimal_plain moment); mark = refl }
+gives-mark (reply.Mail (NotDue None)) = record { one_line = one_line _ (mail_words (NotDue None)) refl refl; mark = refl }
+gives-mark (reply.Audit counts) = record { one_line = one_line _ (count_words counts) refl (counts_plain counts); mark = refl }
+gives-mark (reply.Refused refused) = record { one_line = one_line _ (codes "refused " ++ decimal (refusal_number refused)) refl (decimal_plain (refusal_number refused)); mark = refl }
+gives-mark reply.KeeperFault = record { one_line = one_line _ (codes "fault keeper") refl refl; mark = refl }
+gives-mark reply.OutOfMemory = record { one_line = one_line _ (codes "out of memory") refl refl; mark = refl }
+
+asked_answered : (o : Option Refusal) (w : World) (request : Request) → is_some (asked_unless o w request).reply ≡ true
+asked_answered None w request = refl
+asked_answered (Some refused) w request = refl
+
+mailed_answered : (o : Option DueUser) (w : World) → is_some (mailed_for o w).reply ≡ true
+mailed_answered None w = refl
+mailed_answered (Some d) w =
+    elim (nat_le d.due (stamp_now w)) as (λ b. is_some (Step.reply (if b then record { after = with_event w (event.MailTurn d.user); reply = Some (reply.Mail (Mailed d.user (length (mail_entries w.journal (stamp_now w) d.user)) (length (batch_rows w.journal d.user) - length (mail_entries w.journal (stamp_now w) d.user)))) } else record { after = w; reply = Some (reply.Mail (NotDue (Some d.due))) })) ≡ true) [
+      | true ↦ refl
+      | false ↦ refl
+    ]
+
+-- a step has a reply where its line has an output line
+step_answered : (w : World) (l : Line) (m : Mark) → MayHave w l m → is_some (step w l m).reply ≡ has_output l
+step_answered w line.Nothing Clean h = refl
+step_answered w (line.At moment) Clean h = refl
+step_answered w (line.Asked request) Clean h = asked_answered (refusal w.journal request) w request
+step_answered w line.Mail Clean h = mailed_answered (first_due w.journal) w
+step_answered w line.Audit Clean h = refl
+step_answered w line.Nothing NoMemory h = cc
+step_answered w (line.At moment) NoMemory h = cc
+step_answered w (line.Asked request) NoMemory h = refl
+step_answered w line.Mail NoMemory h = refl
+step_answered w line.Audit NoMemory h = cc
+step_answered w line.Nothing KeeperFault h = cc
+step_answered w (line.At moment) KeeperFault h = cc
+step_answered w (line.Asked request) KeeperFault h = refl
+step_answered w line.Mail KeeperFault h = refl
+step_answered w line.Audit KeeperFault h = cc
+
+given : (answer : Option Reply) → IfSome answer GivesMark
+given None = tt
+given (Some answer) = gives-mark answer
+
+pub step-shown : (before : World) (l : Line) (answer : Option Reply) (after : World) → IsStep before l answer after → IsShown l answer
+step-shown before l answer after s = record {
+  answered = ap (λ (x : Step). is_some x.reply) (sym s.made) ∙ step_answered before l (mark_of answer) s.marked;
+  given = given answer;
+}
+
+-- the lines of a play are shown
+pub plays-shown : (before : World) (lines : List (List ℕ)) (answers : List (Option Reply)) (after : World) → PlaysLines before lines answers after → AreShown lines answers
+plays-shown before [] [] after p = tt
+plays-shown before [] (answer ∷ answers) after p = tt
+plays-shown before (bytes ∷ lines) [] after p = tt
+plays-shown before (bytes ∷ lines) (answer ∷ answers) after p =
+    (rw (p.1.read) (step-shown before p.1.line answer p.0 p.1.step), plays-shown p.0 lines answers after p.2)
