@@ -15,7 +15,7 @@ use Rattle.notifyd.specs.Answered.{GaveBadLine, GaveLines}
 use Rattle.notifyd.specs.Status.{status_met}
 use Rattle.notifyd.specs.Run.{Told, started, Wrote, IsPlayOf, PlayedToEnd, PlayedToBadLine, PlayedComplete, PlayedToFault, StartFailed, PlayedAs}
 use Rattle.notifyd.proofs.AnswerLemmas.{AnswersRest-all}
-use Rattle.notifyd.proofs.ShownLemmas.{plays-shown}
+use Rattle.notifyd.proofs.ShownLemmas.{plays-shown, marks-read}
 
 -- a play stands where a start leaves it
 pub record IsFresh (before : Told) (a : Standing) : Type 0 where
@@ -35,6 +35,7 @@ play_of before now a b lines fresh closed p = record {
   after = b.world;
   played = let P : World → Type 0 = λ w. PlaysLines w lines p.replies b.world in subst P fresh.world p.played;
   shown = plays-shown a.world lines p.replies b.world p.played;
+  marks = marks-read p.replies;
   kept = closed.kept;
   risen = let h = fresh.faults in let k = closed.faults in let r = p.risen in omega arith;
 }

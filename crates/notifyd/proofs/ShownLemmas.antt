@@ -1,7 +1,8 @@
 -- Each step is shown: its line has one output line or none, and the line gives the mark.
-use Rattle.std.proofs.Common.{◌≡◌, ℕ, zero, suc, ◌+◌, ◌-◌, length, ◌/◌, ◌%◌, ◌==◌, true, false, ◌||◌, List, [], ◌∷◌, ◌++◌, Option, Some, None, refl, sym, ap, ◌∙◌, is_some, arith, nat_lt}
+use Rattle.std.proofs.Common.{◌≡◌, ℕ, zero, suc, Bool, map, append_assoc, ◌+◌, ◌-◌, length, ◌/◌, ◌%◌, ◌==◌, true, false, ◌||◌, List, [], ◌∷◌, ◌++◌, Option, Some, None, refl, sym, ap, ◌∙◌, is_some, arith, nat_lt}
 use Rattle.std.specs.Prelude.{IfSome, if◌then◌else◌, codes, decimal, nat_le}
 use Rattle.std.specs.Fmt.{digits, digits_onto, digit_glyph}
+use Rattle.std.specs.List.{flat_map}
 use Rattle.std.proofs.lemmas.List.Folds.{list_any-append}
 use Rattle.std.proofs.lemmas.Bool.{ne_eqb}
 use Rattle.chat_model.specs.declared.counts.Counts.{Counts}
@@ -13,10 +14,11 @@ use Rattle.chat_model.specs.declared.event.Event.TheVariants as event
 use Rattle.notice_ledger.specs.Due.{DueUser, first_due, batch_rows}
 use Rattle.notice_ledger.specs.Outbox.{mail_entries}
 use Rattle.notice_ledger.specs.Lawful.{refusal}
+use Rattle.notifyd.specs.Reply.{reply_text}
 use Rattle.notifyd.specs.Words.{answer_words, mail_words, account_words, count_words, refusal_number}
-use Rattle.notifyd.specs.Play.{World, Mark, Step, step, asked_unless, mailed_for, MayHave, IsStep, PlaysLines, mark_of, stamp_now, with_event}
+use Rattle.notifyd.specs.Play.{World, Mark, Step, step, asked_unless, mailed_for, MayHave, IsStep, PlaysLines, mark_of, answer_text, stamp_now, with_event}
 use Rattle.notifyd.specs.Play.Mark.{Clean, NoMemory, KeeperFault}
-use Rattle.notifyd.specs.Shown.{has_output, has_line_feed, IsOneLine, GivesMark, IsShown, AreShown}
+use Rattle.notifyd.specs.Shown.{has_output, has_line_feed, IsOneLine, GivesMark, IsShown, AreShown, lines_after, mark_given, marks_given, marks_of}
 use Rattle.notifyd.specs.declared.line.Line.{Line}
 use Rattle.notifyd.specs.declared.line.Line.TheVariants as line
 use Rattle.notifyd.specs.declared.reply.Reply.{Reply}
@@ -134,3 +136,35 @@ plays-shown before [] (answer ∷ answers) after p = tt
 plays-shown before (bytes ∷ lines) [] after p = tt
 plays-shown before (bytes ∷ lines) (answer ∷ answers) after p =
     (rw (p.1.read) (step-shown before p.1.line answer p.0 p.1.step), plays-shown p.0 lines answers after p.2)
+
+no_feed_left : (byte : ℕ) (bytes : List ℕ) → has_line_feed (byte ∷ bytes) ≡ false → ((byte == 10) ≡ false) × (has_line_feed bytes ≡ false)
+no_feed_left byte bytes h = by (byte == 10) h
+  where
+    by : (b : Bool) → (b || has_line_feed bytes) ≡ false → (b ≡ false) × (has_line_feed bytes ≡ false)
+    by false e = (refl, e)
+    by true e = cc
+
+-- words without a line feed, and then one, are a line
+line_first : (begun words rest : List ℕ) → has_line_feed words ≡ false → lines_after begun (words ++ 10 ∷ rest) ≡ (begun ++ (words ++ 10 ∷ [])) ∷ lines_after [] rest
+line_first begun [] rest h = refl
+line_first begun (byte ∷ words) rest h =
+    let n = no_feed_left byte words h in
+    ap (λ b. if b then (begun ++ byte ∷ []) ∷ lines_after [] (words ++ 10 ∷ rest) else lines_after (begun ++ byte ∷ []) (words ++ 10 ∷ rest)) n.0
+    ∙ (line_first (begun ++ byte ∷ []) words rest n.1 ∙ ap (λ line. line ∷ lines_after [] rest) (append_assoc begun (byte ∷ []) (words ++ 10 ∷ [])))
+
+-- a text that is one line is the first of what it begins
+one_line_first : (text rest : List ℕ) → IsOneLine text → lines_after [] (text ++ rest) ≡ text ∷ lines_after [] rest
+one_line_first text rest one =
+    ap (λ t. lines_after [] (t ++ rest)) one.ended
+    ∙ (ap (lines_after []) (append_assoc one.words (10 ∷ []) rest)
+    ∙ (line_first [] one.words rest one.single ∙ ap (λ t. t ∷ lines_after [] rest) (sym one.ended)))
+
+-- the marks that the text of replies gives are theirs
+pub marks-read : (answers : List (Option Reply)) → marks_given (flat_map answer_text answers) ≡ marks_of answers
+unfolding marks_given
+marks-read [] = refl
+marks-read (None ∷ answers) = marks-read answers
+marks-read (Some answer ∷ answers) =
+    let g = gives-mark answer in
+    ap (map mark_given) (one_line_first (reply_text answer) (flat_map answer_text answers) g.one_line)
+    ∙ (ap (λ m. m ∷ marks_given (flat_map answer_text answers)) g.mark ∙ ap (λ ms. mark_of (Some answer) ∷ ms) (marks-read answers))

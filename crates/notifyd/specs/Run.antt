@@ -14,7 +14,7 @@ use Rattle.notifyd.specs.Reply.{reply_text}
 use Rattle.notifyd.specs.LastLine.{last_line_text}
 use Rattle.notifyd.specs.Cut.{IsBadLine, IsWholeLine, GaveBytes, max_script, cut_of, all_lines}
 use Rattle.notifyd.specs.Play.{World, world, PlaysLines, HaveRisen, answer_text, is_keeper_fault, is_out_of_memory}
-use Rattle.notifyd.specs.Shown.{AreShown}
+use Rattle.notifyd.specs.Shown.{AreShown, marks_given, marks_of}
 use Rattle.notifyd.specs.Status.{status_met, KeptIsEmpty}
 
 -- what the devices of a run tell: the bytes written, what is kept, and how often the keeper failed
@@ -34,12 +34,14 @@ started = world (record { at = 0; event = Restart } ∷ []) 0
 abbrev pub Wrote : List ℕ → Told → Told → Type 0
 Wrote text before now = now.written ≡ option_map (λ done. done ++ text) before.written
 
--- the lines are played from the start on, with these replies, which are read off the output lines; what is kept stands for the journal of the world after
--- them, and the keeper's count rose by as many as the replies that are its faults
+-- the lines are played from the start on, with these replies, whose marks are read off the text that is written; what
+-- is kept stands for the journal of the world after them, and the keeper's count rose by as many as the replies that
+-- are its faults
 pub record IsPlayOf (lines : List (List ℕ)) (replies : List (Option Reply)) (before now : Told) : Type 0 where
   pub after : World
   pub played : PlaysLines started lines replies after
   pub shown : AreShown lines replies
+  pub marks : marks_given (flat_map answer_text replies) ≡ marks_of replies
   pub kept : IfSome now.kept (KeptStandsFor after.journal)
   pub risen : HaveRisen (count_by is_keeper_fault replies) before.faults now.faults
 

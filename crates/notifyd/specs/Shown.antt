@@ -1,5 +1,5 @@
 -- What is written of a line: whether it has an output line, and the mark that this line gives.
-use Rattle.std.specs.Prelude.{◌≡◌, ℕ, ◌++◌, ◌∷◌, [], ◌==◌, Bool, true, false, List, Option, Some, IfSome, IfOk, is_some, bytes_eq, if◌then◌else◌, ⊤}
+use Rattle.std.specs.Prelude.{◌≡◌, ℕ, ◌++◌, ◌∷◌, [], ◌==◌, Bool, true, false, List, Option, Some, None, map, IfSome, IfOk, is_some, bytes_eq, if◌then◌else◌, ⊤}
 use Rattle.std.specs.List.{list_any}
 use Rattle.notifyd.specs.Grammar.{reading}
 use Rattle.notifyd.specs.Reply.{reply_text}
@@ -33,6 +33,22 @@ abbrev pub mark_given : List ℕ → Mark
 mark_given text =
     if bytes_eq text (reply_text reply.KeeperFault) then KeeperFault
     else (if bytes_eq text (reply_text reply.OutOfMemory) then NoMemory else Clean)
+
+-- the first line of a text, with its line feed, and the other lines; bytes behind the last line feed are no line
+abbrev pub lines_after : List ℕ → List ℕ → List (List ℕ)
+lines_after begun [] = []
+lines_after begun (byte ∷ bytes) =
+    if byte == 10 then (begun ++ byte ∷ []) ∷ lines_after [] bytes else lines_after (begun ++ byte ∷ []) bytes
+
+-- the marks that a text gives: one for each of its lines
+unfoldable pub marks_given : List ℕ → List Mark
+marks_given text = map mark_given (lines_after [] text)
+
+-- the marks of the replies that are there
+abbrev pub marks_of : List (Option Reply) → List Mark
+marks_of [] = []
+marks_of (None ∷ answers) = marks_of answers
+marks_of (Some answer ∷ answers) = mark_of (Some answer) ∷ marks_of answers
 
 -- a reply is one output line, which gives its mark
 pub record GivesMark (answer : Reply) : Type 0 where
