@@ -213,6 +213,8 @@ pub fn run<S: Source, O: Sink, K: Keeper, P: Spool>(
     ensures usage { result.status ≡ 1 →
         O.written out.new ≡ option_map (λ done. done ++ last_line_text LastLine.Usage) (O.written out.old) }
     ensures no_command { is_play words.now ≡ false → (result.keeper ≡ keeper) × ((result.status ≡ 1) ⊎ (result.status ≡ 4)) }
+    ensures unread { is_play words.now ≡ false → source.new ≡ source.old }
+    ensures no_file { _spool.new ≡ _spool.old }
     ensures ended { result.status ≡ 0 → IfSome (S.remaining source.new) (λ bytes. bytes ≡ []) }
     ensures played { IfSome (S.remaining source.old) (λ bytes.
         PlayedAs bytes (told_by (O.written out.old) (K.kept keeper) (K.faults keeper)) (S.remaining source.new)

@@ -14,7 +14,9 @@ pub struct StandardSource<R> {
 }
 
 impl<R> StandardSource<R> {
-    pub fn new(reader: R) -> StandardSource<R> {
+    pub fn new(reader: R) -> StandardSource<R>
+        ensures { result ≡ record { reader = reader; faults = 0 } }
+    {
         StandardSource { reader, faults: 0 }
     }
 }
@@ -43,7 +45,9 @@ pub struct StandardSink<W> {
 }
 
 impl<W> StandardSink<W> {
-    pub fn new(writer: W) -> StandardSink<W> {
+    pub fn new(writer: W) -> StandardSink<W>
+        ensures { result ≡ record { writer = writer; faults = 0 } }
+    {
         StandardSink { writer, faults: 0 }
     }
 }
