@@ -1,4 +1,1 @@
 pub mod Judging
-pub mod Reading
-pub mod Within
-pub mod Whole
