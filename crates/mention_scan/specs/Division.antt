@@ -1,7 +1,7 @@
 -- How a text divides into parts, and the spans that it has. A text is the list of its UTF-8 bytes.
 use Rattle.std.specs.Prelude.{◌≡◌, ℕ, zero, suc, ◌+◌, ◌-◌, ◌<◌, ◌≤◌, Bool, true, false, ◌&&◌, ◌||◌, ◌==◌, not, List, [], ◌∷◌, ◌++◌, length, take, drop, replicate, take_while, Option, Some, None, codes, chars, slice_index, nat_eq, nat_le, if◌then◌else◌}
 use Rattle.std.specs.Char.{is_whitespace, encode_utf8}
-use Rattle.std.specs.List.{list_all, prefix_len, suffix_len, slice_split, starts_with}
+use Rattle.std.specs.List.{prefix_len, suffix_len, slice_split, starts_with}
 use Rattle.std.specs.Option.{option_map, option_map_or}
 use Rattle.std.specs.Str.{byte, bytes_eq}
 use Rattle.mention_scan.specs.declared.fence.Fence.{Fence}
@@ -188,10 +188,13 @@ fence_of character line =
 abbrev pub fence_opened : List ℕ → Option Fence
 fence_opened line = if nat_le 3 (run_of (byte "`") line) then fence_of (byte "`") line else fence_of (byte "~") line
 
+-- nothing but spaces: a run of them reaches the end
+abbrev pub is_blank : List ℕ → Bool
+is_blank bs = run_of (byte " ") bs == length bs
+
 -- the line is a run of the fence's character, at least as long as the opening one, followed only by spaces
 abbrev pub closes : Fence → List ℕ → Bool
-closes fence line =
-    nat_le fence.size (run_of fence.character line) && list_all (λ b. b == byte " ") (drop (run_of fence.character line) line)
+closes fence line = nat_le fence.size (run_of fence.character line) && is_blank (drop (run_of fence.character line) line)
 
 -- the fence that is open behind a line that is read where this one is open, or none
 abbrev pub fence_behind : Option Fence → List ℕ → Option Fence
