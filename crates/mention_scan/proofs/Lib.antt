@@ -1,3 +1,5 @@
 pub mod Judging
+pub mod Lines
 pub mod Reading
 pub mod Runs
+pub mod Whole

@@ -12,8 +12,10 @@ use Rattle.std.proofs.lemmas.Slice.Eq.{starts_is}
 use Rattle.std.proofs.lemmas.Str.{chars_past_char, length-encode, len_utf8_bounds, IsCharBoundary-after_ascii}
 use Rattle.std.proofs.Math.Seq.{drop-append_seam}
 use Rattle.mention_scan.specs.declared.form.Form.{Form}
+use Rattle.mention_scan.specs.declared.form.Form.TheVariants.{User, SilentUser, Group, SilentGroup}
 use Rattle.mention_scan.specs.declared.span.Span.{Span}
-use Rattle.mention_scan.specs.Division.{Part, bare, span, single, bytes_of, last_character, opening, closing, is_silent, is_group, run_length, run_part, may_begin, is_inner, has_form, form_of, span_form, inner_in, first_part, parts, parts_of_line, spans_from}
+use Rattle.mention_scan.proofs.Runs.{run_part-some}
+use Rattle.mention_scan.specs.Division.{Part, bare, code, span, single, bytes_of, last_character, opening, closing, is_silent, is_group, run_length, run_part, run_place, may_begin, is_inner, has_form, form_of, span_form, inner_in, first_part, parts, parts_of_line, spans_from}
 
 -- the bytes from `start` on, behind this character, are still to be read, and what was found goes before what they hold
 pub record Reading (quoted : Bool) (line rest : List ℕ) (begin start : ℕ) (before : Option ℕ) (old found : List Span) : Type 0 where
@@ -65,24 +67,133 @@ record IsQuiet (part : Part) : Type 0 where
   ends : last_character part ≡ byte "`"
 
 run_part-quiet : (n : ℕ) (behind : List ℕ) → IsQuiet (run_part n behind)
-run_part-quiet n behind = ?
+run_part-quiet n behind = by (run_place false n behind)
+  where
+    by : (o : Option ℕ) → IsQuiet (option_map_or (λ place. code n (take place behind)) o (bare n))
+    by None = record { quiet = λ start ps. refl; ends = refl }
+    by (Some place) = record { quiet = λ start ps. refl; ends = refl }
 
 pub Reading-run : (quoted : Bool) (line rest : List ℕ) (begin start run n : ℕ) (before : Option ℕ) (old found : List Span) →
     Reading quoted line rest begin start before old found → run ≡ run_length rest → 0 < run →
-    n ≡ length (bytes_of (run_part run (drop run rest))) → 0 < n → n ≤ length rest →
+    n ≡ length (bytes_of (run_part run (drop run rest))) → n ≤ length rest →
     Reading quoted line (drop n rest) begin (start + n) (Some 96) old found
-Reading-run quoted line rest begin start run n before old found r is some size long fits = ?
+Reading-run quoted line rest begin start run n before old found r is some size fits =
+    let part = run_part run (drop run rest) in
+    let quiet = run_part-quiet run (drop run rest) in
+    let begins : not (nat_eq (run_length rest) 0) ≡ true = let s : 0 < run_length rest = omega (arith, is) in grind (arith, nat_tests) in
+    let other = option_map_or (λ form. span quoted form (inner_in form rest)) (span_form before rest) (single (slice_index (chars rest) 0)) in
+    let first : first_part quoted before rest ≡ part =
+    ap (λ t. cond t (run_part (run_length rest) (drop (run_length rest) rest)) other) begins ∙ ap (λ k. run_part k (drop k rest)) (sym is) in
+    let long : 0 < n = omega (arith, size, run_part-some run (drop run rest)) in
+    let next : Reading quoted line (drop n rest) begin (start + n) (Some (last_character part)) old (found ++ []) =
+    Reading-part quoted line rest begin start n before old found [] part r first (sym size) long fits
+    (λ ps. quiet.quiet start ps ∙ ap (λ k. spans_from (start + k) ps) (sym size)) in
+    subst (λ f. Reading quoted line (drop n rest) begin (start + n) (Some 96) old f) (append-nil found)
+    (subst (λ c. Reading quoted line (drop n rest) begin (start + n) (Some c) old (found ++ [])) quiet.ends next)
 
 -- ---- spans
 
+-- what has a form ends with its closing
+pub form-closes : (form : Form) (bs : List ℕ) → has_form form bs ≡ true →
+    drop (length (opening form) + length (inner_in form bs)) bs
+    ≡ closing form ++ drop (length (closing form)) (drop (length (opening form) + length (inner_in form bs)) bs)
+form-closes form bs h =
+    (starts_is Decides-eqb (drop (length (opening form) + length (inner_in form bs)) bs) (closing form) _ refl).0 (and_parts _ _ h).1
+
+pub closing-some : (form : Form) → 0 < length (closing form)
+closing-some User = omega arith
+closing-some SilentUser = omega arith
+closing-some Group = omega arith
+closing-some SilentGroup = omega arith
+
+closing-last : (form : Form) (xs : List ℕ) → get_or (closing form ++ xs) (length (closing form) - 1) 0 ≡ 42
+closing-last User xs = refl
+closing-last SilentUser xs = refl
+closing-last Group xs = refl
+closing-last SilentGroup xs = refl
+
 pub form-fits : (form : Form) (bs : List ℕ) → has_form form bs ≡ true →
     length (opening form) + length (inner_in form bs) + length (closing form) ≤ length bs
-form-fits form bs h = ?
+form-fits form bs h =
+    let k = length (opening form) + length (inner_in form bs) in
+    let all : length (drop k bs) ≡ length (closing form) + length (drop (length (closing form)) (drop k bs)) =
+    ap length (form-closes form bs h) ∙ length-append (closing form) (drop (length (closing form)) (drop k bs)) in
+    let some = closing-some form in
+    omega (arith, all, length-drop k bs)
 
 pub form-boundary : (form : Form) (bs : List ℕ) (n : ℕ) → IsUtf8 bs → has_form form bs ≡ true →
     n ≡ length (opening form) + length (inner_in form bs) + length (closing form) → IsCharBoundary bs n
-form-boundary form bs n u h e = ?
+form-boundary form bs n u h e =
+    let k = length (opening form) + length (inner_in form bs) in
+    let j = length (closing form) - 1 in
+    let some = closing-some form in
+    let fits = form-fits form bs h in
+    let star : get_or bs (k + j) 0 ≡ 42 =
+    sym (get_or-drop k bs j 0) ∙ ap (λ xs. get_or xs j 0) (form-closes form bs h) ∙ closing-last form (drop (length (closing form)) (drop k bs)) in
+    let last : (k + j) + 1 ≡ n = omega arith in
+    subst (IsCharBoundary bs) last (IsCharBoundary-after_ascii bs (k + j) u (omega arith) (omega (arith, star)))
 
 -- the form of a span that begins the bytes is one with which they begin
 pub span_form-has : (before : Option ℕ) (bs : List ℕ) (form : Form) → span_form before bs ≡ Some form → has_form form bs ≡ true
-span_form-has before bs form h = ?
+span_form-has before bs form h = begins (may_begin before) h
+  where
+    last : (t : Bool) → has_form SilentGroup bs ≡ t → cond t (Some SilentGroup) None ≡ Some form → has_form form bs ≡ true
+    last true e h = let same : SilentGroup ≡ form = cc in subst (λ f. has_form f bs ≡ true) same e
+    last false e h = absurd cc
+
+    third : (t : Bool) → has_form Group bs ≡ t → cond t (Some Group) (cond (has_form SilentGroup bs) (Some SilentGroup) None) ≡ Some form → has_form form bs ≡ true
+    third true e h = let same : Group ≡ form = cc in subst (λ f. has_form f bs ≡ true) same e
+    third false e h = last (has_form SilentGroup bs) refl h
+
+    second : (t : Bool) → has_form SilentUser bs ≡ t → cond t (Some SilentUser) (cond (has_form Group bs) (Some Group) (cond (has_form SilentGroup bs) (Some SilentGroup) None)) ≡ Some form → has_form form bs ≡ true
+    second true e h = let same : SilentUser ≡ form = cc in subst (λ f. has_form f bs ≡ true) same e
+    second false e h = third (has_form Group bs) refl h
+
+    first : (t : Bool) → has_form User bs ≡ t → cond t (Some User) (cond (has_form SilentUser bs) (Some SilentUser) (cond (has_form Group bs) (Some Group) (cond (has_form SilentGroup bs) (Some SilentGroup) None))) ≡ Some form → has_form form bs ≡ true
+    first true e h = let same : User ≡ form = cc in subst (λ f. has_form f bs ≡ true) same e
+    first false e h = second (has_form SilentUser bs) refl h
+
+    begins : (t : Bool) → cond t (form_of bs) None ≡ Some form → has_form form bs ≡ true
+    begins true h = first (has_form User bs) refl h
+    begins false h = absurd cc
+
+pub Reading-span : (quoted : Bool) (line rest : List ℕ) (begin start n : ℕ) (before : Option ℕ) (old found : List Span) (form : Form) →
+    Reading quoted line rest begin start before old found → run_length rest ≡ 0 → span_form before rest ≡ Some form →
+    n ≡ length (opening form) + length (inner_in form rest) + length (closing form) →
+    Reading quoted line (drop n rest) begin (start + n) (Some 42) old
+    (found ++ record { start = start; end = start + n; silent = quoted || is_silent form; group = is_group form } ∷ [])
+Reading-span quoted line rest begin start n before old found form r none h e =
+    let part = span quoted form (inner_in form rest) in
+    let has = span_form-has before rest form h in
+    let fits = form-fits form rest has in
+    let some = closing-some form in
+    let size : length (bytes_of part) ≡ n =
+    length-append (opening form) (inner_in form rest ++ closing form) ∙ omega (arith, e, length-append (inner_in form rest) (closing form)) in
+    let more : ℕ → List Span = λ k. record { start = start; end = start + k; silent = quoted || is_silent form; group = is_group form } ∷ [] in
+    let first : first_part quoted before rest ≡ part =
+    ap (λ k. cond (not (nat_eq k 0)) (run_part k (drop k rest)) (option_map_or (λ f. span quoted f (inner_in f rest)) (span_form before rest) (single (slice_index (chars rest) 0)))) none
+    ∙ ap (λ o. option_map_or (λ f. span quoted f (inner_in f rest)) o (single (slice_index (chars rest) 0))) h in
+    Reading-part quoted line rest begin start n before old found (more n) part r first size (omega arith) (omega arith)
+    (λ ps. ap (λ k. more k ++ spans_from (start + k) ps) size)
+
+-- ---- characters
+
+pub Reading-single : (quoted : Bool) (line rest after : List ℕ) (begin start c : ℕ) (before : Option ℕ) (old found : List Span) →
+    Reading quoted line rest begin start before old found → run_length rest ≡ 0 → span_form before rest ≡ None → IsUtf8 rest →
+    rest ≡ encode_utf8 c ++ after → Reading quoted line after begin (start + len_utf8 c) (Some c) old found
+Reading-single quoted line rest after begin start c before old found r none h u e =
+    let n = len_utf8 c in
+    let size : length (encode_utf8 c) ≡ n = length-encode c in
+    let all : length rest ≡ length (encode_utf8 c) + length after = ap length e ∙ length-append (encode_utf8 c) after in
+    let bounds : (1 ≤ n) × (n ≤ 4) = len_utf8_bounds c in
+    let is_c : slice_index (chars rest) 0 ≡ c = ap (λ cs. slice_index cs 0) (chars_past_char rest after c u e) in
+    let first : first_part quoted before rest ≡ single c =
+    ap (λ k. cond (not (nat_eq k 0)) (run_part k (drop k rest)) (option_map_or (λ f. span quoted f (inner_in f rest)) (span_form before rest) (single (slice_index (chars rest) 0)))) none
+    ∙ ap (λ o. option_map_or (λ f. span quoted f (inner_in f rest)) o (single (slice_index (chars rest) 0))) h ∙ ap single is_c in
+    let left : drop n rest ≡ after =
+    ap (λ k. drop k rest) (sym size) ∙ ap (drop (length (encode_utf8 c))) e ∙ drop-append_seam (encode_utf8 c) after in
+    let next : Reading quoted line (drop n rest) begin (start + n) (Some c) old (found ++ []) =
+    Reading-part quoted line rest begin start n before old found [] (single c) r first size bounds.0 (omega arith)
+    (λ ps. ap (λ k. spans_from (start + k) ps) size) in
+    subst (λ f. Reading quoted line after begin (start + n) (Some c) old f) (append-nil found)
+    (subst (λ bs. Reading quoted line bs begin (start + n) (Some c) old (found ++ [])) left next)

@@ -61,9 +61,9 @@ backquotes n = replicate n (byte "`")
 -- the bytes of a part
 abbrev pub bytes_of : Part → List ℕ
 bytes_of (fence_line line) = line
-bytes_of (code n inside) = backquotes n ++ inside ++ backquotes n
+bytes_of (code n inside) = backquotes n ++ (inside ++ backquotes n)
 bytes_of (bare n) = backquotes n
-bytes_of (span quoted form inner) = opening form ++ inner ++ closing form
+bytes_of (span quoted form inner) = opening form ++ (inner ++ closing form)
 bytes_of (single c) = encode_utf8 c
 
 -- the last character of a part that stands in a line that may hold spans

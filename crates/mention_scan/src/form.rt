@@ -1,5 +1,5 @@
 //! The four forms of a span.
-ghost use Rattle.std.specs.Prelude.{◌≡◌, ◌+◌, ◌≤◌, length, true};
+ghost use Rattle.std.specs.Prelude.{◌≡◌, ◌+◌, ◌≤◌, ◌||◌, length, true};
 ghost use Rattle.std.specs.List.{prefix_len};
 ghost use Rattle.mention_scan.specs.Division.{opening, closing, is_silent, is_group, is_inner, has_form, form_of, inner_in};
 
@@ -80,10 +80,17 @@ impl Form {
     }
 
     /// Whether the span mentions nobody by its form alone.
-    pub fn is_silent(self) -> bool
+    fn is_silent(self) -> bool
         ensures { result ≡ is_silent self }
     {
         matches!(self, Form::SilentUser | Form::SilentGroup)
+    }
+
+    /// Whether the span mentions nobody by its form, or since its line is quoted.
+    pub fn is_silent_in(self, quoted: bool) -> bool
+        ensures { result ≡ (quoted || is_silent self) }
+    {
+        quoted || self.is_silent()
     }
 
     /// Whether the span is of a group.

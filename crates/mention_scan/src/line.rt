@@ -73,7 +73,7 @@ pub fn scan_line(
             found.push(Span {
                 start: place,
                 end,
-                silent: quoted || form.is_silent(),
+                silent: form.is_silent_in(quoted),
                 group: form.is_group(),
             })?;
             rest = &rest[length..];
@@ -94,6 +94,7 @@ pub fn scan_line(
 /// How many bytes the code part or the bare run has that begins with this run.
 fn run_part_length(run: usize, bytes: &[u8]) -> usize
     requires begins { run ≡ run_length bytes.now }
+    requires within { run ≤ length bytes.now }
     requires some { 0 < run }
     ensures value { result ≡ length (bytes_of (run_part run (drop run bytes.now))) }
     ensures bound { result ≤ length bytes.now }

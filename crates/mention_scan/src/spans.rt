@@ -1,6 +1,7 @@
 //! The spans of a text.
-ghost use Rattle.std.specs.Prelude.{◌≡◌, All, IfOk, flat_map};
-ghost use Rattle.mention_scan.specs.Division.{bytes_of, division, spans_of, LiesWithin};
+ghost use Rattle.std.specs.Prelude.{◌≡◌, ◌==◌, ◌+◌, ◌^◌, ◌<◌, ◌≤◌, ◌++◌, length, All, IfOk, OnOk, flat_map};
+ghost use Rattle.std.specs.List.{position_or_len};
+ghost use Rattle.mention_scan.specs.Division.{bytes_of, division, manner_of, parts_read, spans_from, spans_of, LiesWithin};
 
 use crate::Span;
 use crate::fence::Fence;
@@ -17,16 +18,48 @@ pub fn scan(alloc: Global, text: &str) -> Result<List<Span>, OutOfMemory>
     ensures whole { flat_map bytes_of (division text.now) ≡ text.now }
 {
     let mut found = List::new(alloc);
-    let mut open = None;
+    let mut rest = text;
     let mut start = 0;
-    for line in text.split('\n') {
-        match Manner::of(open, line.as_bytes()) {
-            Manner::Fenced => {}
-            Manner::Quoted => scan_line(line, start, true, &mut found)?,
-            Manner::Plain => scan_line(line, start, false, &mut found)?,
+    let mut current = None;
+    'lines: loop {
+        let length = line_length(rest.as_bytes());
+        let line = &rest[..length];
+        scan_in_fence(current, line, start, &mut found)?;
+        if length == rest.len() {
+            return Ok(found);
         }
-        open = Fence::behind(open, line.as_bytes());
-        start += line.len() + 1;
+        current = Fence::behind(current, line.as_bytes());
+        rest = &rest[length + 1..];
+        start += length + 1;
     }
-    Ok(found)
+}
+
+/// Adds the spans of a line that begins at this byte of the text and is read where this fence is open.
+fn scan_in_fence(
+    current: Option<Fence>,
+    line: &str,
+    start: usize,
+    found: &mut List<Span>,
+) -> Result<(), OutOfMemory>
+    requires fits { start + length line.now < 2 ^ 64 }
+    ensures { OnOk result (found.new ≡ found.old ++ spans_from start (parts_read (manner_of current line.now) line.now)) }
+{
+    match Manner::of(current, line.as_bytes()) {
+        Manner::Fenced => Ok(()),
+        Manner::Quoted => scan_line(line, start, true, found),
+        Manner::Plain => scan_line(line, start, false, found),
+    }
+}
+
+/// How many bytes stand before the first line feed.
+fn line_length(bytes: &[u8]) -> usize
+    ensures value { result ≡ position_or_len (λ b. b == 10) bytes.now }
+    ensures bound { result ≤ length bytes.now }
+{
+    for (i, b) in bytes.iter().enumerate() {
+        if *b == b'\n' {
+            return i;
+        }
+    }
+    bytes.len()
 }
