@@ -3,3 +3,4 @@ pub mod Lines
 pub mod Reading
 pub mod Runs
 pub mod Whole
+pub mod Within

@@ -1,11 +1,13 @@
 -- How far a reading of a text has come, line by line.
-use Rattle.std.proofs.Common.{◌≡◌, ℕ, zero, suc, ◌+◌, ◌-◌, ◌≤◌, ◌<◌, Bool, true, false, not, cond, List, [], ◌∷◌, ◌++◌, length, take, drop, Option, Some, None, refl, sym, ap, ◌∙◌, subst, arith, append_assoc, append-nil, length-append, length-drop, length-take, get_or, nat_eq}
-use Rattle.std.specs.Prelude.{◌==◌, IsCharBoundary, IsUtf8, flat_map}
+use Rattle.std.proofs.Common.{◌≡◌, ℕ, zero, suc, ◌+◌, ◌-◌, ◌≤◌, ◌<◌, Bool, true, false, not, cond, List, [], ◌∷◌, ◌++◌, length, take, drop, Option, Some, None, refl, sym, ap, ◌∙◌, subst, arith, append_assoc, append-nil, length-append, length-drop, length-take, get_or, nat_eq, ⊎_elim}
+use Rattle.std.specs.Prelude.{◌==◌, IsCharBoundary, IsUtf8, flat_map, slice_range}
 use Rattle.std.specs.List.{before_first, after_first, onto_first, position_or_len, slice_split}
-use Rattle.std.proofs.lemmas.List.{take_all}
+use Rattle.std.proofs.lemmas.List.{drop_more, take-append-drop, take_all}
 use borrow.Author.Tests.{eqb-true}
 use Rattle.std.proofs.lemmas.List.Sums.{prefix_len-le-length, prefix_len_stops}
-use Rattle.std.proofs.lemmas.Str.{IsCharBoundary-after_ascii, length-encode}
+use Rattle.std.proofs.lemmas.Str.{IsCharBoundary-after_ascii, IsUtf8-drop, IsUtf8-take, length-encode}
+use Rattle.std.proofs.lemmas.Bool.{cases_lt}
+use Rattle.std.proofs.lemmas.Grind.{flat_map-append}
 use Rattle.std.proofs.lemmas.List.Splits.{slice_split_first}
 use Rattle.mention_scan.specs.declared.fence.Fence.{Fence}
 use Rattle.mention_scan.specs.declared.line.Manner.{Manner}
@@ -141,3 +143,50 @@ line_feed-boundary bs n e =
 
 pub behind-boundary : (bs : List ℕ) (n : ℕ) → IsUtf8 bs → n ≡ position_or_len (λ b. b == 10) bs → n < length bs → IsCharBoundary bs (n + 1)
 behind-boundary bs n u e inside = IsCharBoundary-after_ascii bs n u inside (omega (arith, feed-at bs n e inside))
+
+pub front-range : (bs : List ℕ) (n : ℕ) → slice_range bs 0 n ≡ take n bs
+front-range bs n = let all : n - 0 ≡ n = omega arith in ap (λ k. take k bs) all
+
+-- ---- the whole text
+
+-- a line feed and what stands behind it
+feed-behind : (bs : List ℕ) (n : ℕ) → n ≡ position_or_len (λ b. b == 10) bs → n < length bs → drop n bs ≡ 10 ∷ drop (n + 1) bs
+feed-behind bs n e inside = drop_more bs n 0 inside ∙ ap (λ b. b ∷ drop (n + 1) bs) (feed-at bs n e inside)
+
+-- a text that is one line
+one-whole : (fence : Option Fence) (text : List ℕ) → length text ≤ position_or_len (λ b. b == 10) text → IsUtf8 text →
+    flat_map bytes_of (parts_of_lines fence (lines_of text)) ≡ text
+one-whole fence text all u =
+    let bound : position_or_len (λ b. b == 10) text ≤ length text = prefix_len-le-length (λ b. not (b == 10)) text in
+    ap (λ ls. flat_map bytes_of (parts_of_lines fence ls)) (lines-one text (omega arith)) ∙ manner-whole (manner_of fence text) text u
+
+-- a line, and the text behind it
+more-whole : (fence : Option Fence) (text : List ℕ) → position_or_len (λ b. b == 10) text < length text → IsUtf8 text →
+    ((f : Option Fence) (n : ℕ) → n ≡ position_or_len (λ b. b == 10) text → IsUtf8 (drop (n + 1) text) → flat_map bytes_of (parts_of_lines f (lines_of (drop (n + 1) text))) ≡ drop (n + 1) text) →
+    flat_map bytes_of (parts_of_lines fence (lines_of text)) ≡ text
+unfolding lib.Utf8.encode
+more-whole fence text inside u later =
+    let n = position_or_len (λ b. b == 10) text in
+    let line = take n text in
+    let after = drop (n + 1) text in
+    let behind = parts_of_lines (fence_behind fence line) (lines_of after) in
+    let line_text : IsUtf8 line = IsUtf8-take text n u (line_feed-boundary text n refl) in
+    let after_text : IsUtf8 after = IsUtf8-drop text (n + 1) u (behind-boundary text n u refl inside) in
+    ap (λ ls. flat_map bytes_of (parts_of_lines fence ls)) (slice_split_first (λ b. b == 10) text 0 inside)
+    ∙ ap (flat_map bytes_of) (parts_of_lines-more fence line (lines_of after) (lines-some after))
+    ∙ flat_map-append bytes_of (parts_read (manner_of fence line) line) (single line_feed ∷ behind)
+    ∙ ap (λ xs. xs ++ (10 ∷ flat_map bytes_of behind)) (manner-whole (manner_of fence line) line line_text)
+    ∙ ap (λ xs. line ++ (10 ∷ xs)) (later (fence_behind fence line) n refl after_text)
+    ∙ ap (λ xs. line ++ xs) (sym (feed-behind text n refl inside))
+    ∙ take-append-drop n text
+
+lines-whole : (m : ℕ) (fence : Option Fence) (text : List ℕ) → length text < m → IsUtf8 text → flat_map bytes_of (parts_of_lines fence (lines_of text)) ≡ text
+lines-whole zero fence text enough u = absurd (omega arith)
+lines-whole (suc m) fence text enough u =
+    ⊎_elim
+    (λ inside. more-whole fence text inside u (λ f n e v. lines-whole m f (drop (n + 1) text) (let left : length (drop (n + 1) text) ≡ length text - (n + 1) = length-drop (n + 1) text in omega arith) v))
+    (λ all. one-whole fence text all u)
+    (cases_lt (position_or_len (λ b. b == 10) text) (length text))
+
+pub division-whole : (text : List ℕ) → IsUtf8 text → flat_map bytes_of (division text) ≡ text
+division-whole text u = lines-whole (length text + 1) None text (omega arith) u

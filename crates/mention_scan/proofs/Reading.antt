@@ -62,11 +62,11 @@ Reading-part quoted line (b ∷ bs) begin start n before old found more part r f
 -- ---- code parts and bare runs
 
 -- a code part or a bare run holds no span, and ends with a backquote
-record IsQuiet (part : Part) : Type 0 where
-  quiet : (start : ℕ) (ps : List Part) → spans_from start (part ∷ ps) ≡ spans_from (start + length (bytes_of part)) ps
-  ends : last_character part ≡ byte "`"
+pub record IsQuiet (part : Part) : Type 0 where
+  pub quiet : (start : ℕ) (ps : List Part) → spans_from start (part ∷ ps) ≡ spans_from (start + length (bytes_of part)) ps
+  pub ends : last_character part ≡ byte "`"
 
-run_part-quiet : (n : ℕ) (behind : List ℕ) → IsQuiet (run_part n behind)
+pub run_part-quiet : (n : ℕ) (behind : List ℕ) → IsQuiet (run_part n behind)
 run_part-quiet n behind = by (run_place false n behind)
   where
     by : (o : Option ℕ) → IsQuiet (option_map_or (λ place. code n (take place behind)) o (bare n))
