@@ -1,4 +1,6 @@
 pub mod Judging
+pub mod Lines
 pub mod Reading
-pub mod Within
+pub mod Runs
 pub mod Whole
+pub mod Within

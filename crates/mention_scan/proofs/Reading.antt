@@ -1,154 +1,199 @@
--- How far a reading of a text has come, and what one part more does to it.
-use Rattle.std.proofs.Common.{◌≡◌, ℕ, zero, suc, ◌+◌, ◌-◌, ◌≤◌, ◌<◌, Bool, true, false, not, ◌&&◌, cond, get_or, get_or-drop, List, [], ◌∷◌, ◌++◌, length, drop, Option, None, Some, refl, sym, ap, ◌∙◌, subst, arith, append_assoc, length-append, length-drop, length-take, nat_eq, append-nil}
+-- How far a reading of a line has come, and what one part more does to it.
+use Rattle.std.proofs.Common.{◌≡◌, ℕ, zero, suc, ◌+◌, ◌-◌, ◌≤◌, ◌<◌, Bool, true, false, not, ◌&&◌, ◌||◌, cond, get_or, get_or-drop, List, [], ◌∷◌, ◌++◌, length, take, drop, Option, None, Some, refl, sym, ap, ◌∙◌, subst, arith, append_assoc, length-append, length-drop, length-take, nat_eq, append-nil}
 use Rattle.std.specs.Prelude.{codes, chars, slice_index, IsUtf8, IsCharBoundary}
 use Rattle.std.specs.Char.{encode_utf8, len_utf8}
 use Rattle.std.specs.List.{starts_with, prefix_len}
+use Rattle.std.specs.Option.{option_map_or}
+use Rattle.std.specs.Str.{byte}
 use Rattle.std.proofs.lemmas.Bool.{and_parts, and_from}
 use Rattle.std.proofs.lemmas.List.Sums.{prefix_len-le-length}
 use Rattle.std.proofs.lemmas.Bool.Decides.{Decides-eqb, nat_tests}
 use Rattle.std.proofs.lemmas.Slice.Eq.{starts_is}
 use Rattle.std.proofs.lemmas.Str.{chars_past_char, length-encode, len_utf8_bounds, IsCharBoundary-after_ascii}
 use Rattle.std.proofs.Math.Seq.{drop-append_seam}
+use Rattle.mention_scan.specs.declared.form.Form.{Form}
+use Rattle.mention_scan.specs.declared.form.Form.TheVariants.{User, SilentUser, Group, SilentGroup}
 use Rattle.mention_scan.specs.declared.span.Span.{Span}
-use Rattle.mention_scan.specs.Division.{Part, user, single, bytes_of, last_character, may_begin, is_inner, has_user_form, inner_behind, first_part, parts, spans_from, spans_of}
+use Rattle.mention_scan.proofs.Runs.{run_part-some}
+use Rattle.mention_scan.specs.Division.{Part, bare, code, span, single, bytes_of, last_character, opening, closing, is_silent, is_group, run_length, run_part, run_place, may_begin, is_inner, has_form, form_of, span_form, inner_in, first_part, parts, parts_of_line, spans_from}
 
 -- the bytes from `start` on, behind this character, are still to be read, and what was found goes before what they hold
-pub record Reading (text rest : List ℕ) (start : ℕ) (before : Option ℕ) (found : List Span) : Type 0 where
-  pub place : start + length rest ≡ length text
+pub record Reading (quoted : Bool) (line rest : List ℕ) (begin start : ℕ) (before : Option ℕ) (old found : List Span) : Type 0 where
+  pub place : start + length rest ≡ begin + length line
   pub fuel : ℕ
   pub enough : length rest ≤ fuel
-  pub read : spans_of text ≡ found ++ spans_from start (parts fuel before rest)
+  pub read : old ++ spans_from begin (parts_of_line quoted line) ≡ found ++ spans_from start (parts quoted fuel before rest)
 
-pub Reading-begin : (text : List ℕ) → Reading text text 0 None []
-Reading-begin text = record { place = omega arith; fuel = length text; enough = omega arith; read = refl }
+pub Reading-begin : (quoted : Bool) (line : List ℕ) (begin : ℕ) (old : List Span) → Reading quoted line line begin begin None old old
+Reading-begin quoted line begin old = record { place = refl; fuel = length line; enough = omega arith; read = refl }
 
-pub Reading-end : (text rest : List ℕ) (start : ℕ) (before : Option ℕ) (found : List Span) → Reading text rest start before found → length rest ≡ 0 → found ≡ spans_of text
-Reading-end text [] start before found r e = sym (r.read ∙ append-nil found)
-Reading-end text (b ∷ bs) start before found r e = absurd (omega arith)
+pub Reading-end : (quoted : Bool) (line rest : List ℕ) (begin start : ℕ) (before : Option ℕ) (old found : List Span) →
+    Reading quoted line rest begin start before old found → length rest ≡ 0 → found ≡ old ++ spans_from begin (parts_of_line quoted line)
+Reading-end quoted line [] begin start before old found r e = sym (r.read ∙ append-nil found)
+Reading-end quoted line (b ∷ bs) begin start before old found r e = absurd (omega arith)
 
 -- with a byte left to read and enough parts allowed, one part is read, and then the others
-parts-step : (n : ℕ) (before : Option ℕ) (b : ℕ) (bs : List ℕ) (part : Part) → first_part before (b ∷ bs) ≡ part → suc (length bs) ≤ n →
-    (m : ℕ) × (n ≡ suc m) × (parts n before (b ∷ bs) ≡ part ∷ parts m (Some (last_character part)) (drop (length (bytes_of part)) (b ∷ bs)))
-parts-step zero before b bs part first enough = absurd (omega arith)
-parts-step (suc m) before b bs part first enough =
-    (m, refl, ap (λ p. p ∷ parts m (Some (last_character p)) (drop (length (bytes_of p)) (b ∷ bs))) first)
+parts-step : (quoted : Bool) (n : ℕ) (before : Option ℕ) (b : ℕ) (bs : List ℕ) (part : Part) → first_part quoted before (b ∷ bs) ≡ part → suc (length bs) ≤ n →
+    (m : ℕ) × (n ≡ suc m) × (parts quoted n before (b ∷ bs) ≡ part ∷ parts quoted m (Some (last_character part)) (drop (length (bytes_of part)) (b ∷ bs)))
+parts-step quoted zero before b bs part first enough = absurd (omega arith)
+parts-step quoted (suc m) before b bs part first enough =
+    (m, refl, ap (λ p. p ∷ parts quoted m (Some (last_character p)) (drop (length (bytes_of p)) (b ∷ bs))) first)
 
 -- one part more of `n` bytes, which holds the spans `more`
-Reading-part : (text rest : List ℕ) (start n : ℕ) (before : Option ℕ) (found more : List Span) (part : Part) →
-    Reading text rest start before found → first_part before rest ≡ part → length (bytes_of part) ≡ n → 0 < n → n ≤ length rest →
+pub Reading-part : (quoted : Bool) (line rest : List ℕ) (begin start n : ℕ) (before : Option ℕ) (old found more : List Span) (part : Part) →
+    Reading quoted line rest begin start before old found → first_part quoted before rest ≡ part → length (bytes_of part) ≡ n → 0 < n → n ≤ length rest →
     ((ps : List Part) → spans_from start (part ∷ ps) ≡ more ++ spans_from (start + n) ps) →
-    Reading text (drop n rest) (start + n) (Some (last_character part)) (found ++ more)
-Reading-part text [] start n before found more part r first size some fits spans = absurd (omega arith)
-Reading-part text (b ∷ bs) start n before found more part r first size some fits spans =
-    let step = parts-step r.fuel before b bs part first r.enough in
+    Reading quoted line (drop n rest) begin (start + n) (Some (last_character part)) old (found ++ more)
+Reading-part quoted line [] begin start n before old found more part r first size some fits spans = absurd (omega arith)
+Reading-part quoted line (b ∷ bs) begin start n before old found more part r first size some fits spans =
+    let step = parts-step quoted r.fuel before b bs part first r.enough in
     let left : length (drop n (b ∷ bs)) ≡ suc (length bs) - n = length-drop n (b ∷ bs) in
-    let ps = parts step.0 (Some (last_character part)) (drop n (b ∷ bs)) in
-    let at_n : parts r.fuel before (b ∷ bs) ≡ part ∷ ps =
-    step.2 ∙ ap (λ k. part ∷ parts step.0 (Some (last_character part)) (drop k (b ∷ bs))) size in
+    let ps = parts quoted step.0 (Some (last_character part)) (drop n (b ∷ bs)) in
+    let at_n : parts quoted r.fuel before (b ∷ bs) ≡ part ∷ ps =
+    step.2 ∙ ap (λ k. part ∷ parts quoted step.0 (Some (last_character part)) (drop k (b ∷ bs))) size in
     record {
-      place = omega arith;
+      place = omega (arith, r.place);
       fuel = step.0;
       enough = omega (arith, step.1);
       read = r.read ∙ ap (λ qs. found ++ spans_from start qs) at_n ∙ ap (λ xs. found ++ xs) (spans ps)
           ∙ sym (append_assoc found more (spans_from (start + n) ps));
     }
 
--- what has the form of a user span ends with two stars
-pub user_form-closes : (bs : List ℕ) → has_user_form bs ≡ true →
-    drop (3 + length (inner_behind 3 bs)) bs ≡ 42 ∷ 42 ∷ drop 2 (drop (3 + length (inner_behind 3 bs)) bs)
-user_form-closes bs h =
-    (starts_is Decides-eqb (drop (3 + length (inner_behind 3 bs)) bs) (codes "**") _ refl).0 (and_parts _ _ h).1
+-- ---- code parts and bare runs
 
-pub user_form-fits : (bs : List ℕ) → has_user_form bs ≡ true → 5 + length (inner_behind 3 bs) ≤ length bs
-user_form-fits bs h =
-    omega (arith, ap length (user_form-closes bs h), length-drop (3 + length (inner_behind 3 bs)) bs)
+-- a code part or a bare run holds no span, and ends with a backquote
+pub record IsQuiet (part : Part) : Type 0 where
+  pub quiet : (start : ℕ) (ps : List Part) → spans_from start (part ∷ ps) ≡ spans_from (start + length (bytes_of part)) ps
+  pub ends : last_character part ≡ byte "`"
 
-pub user_form-last : (bs : List ℕ) → has_user_form bs ≡ true → get_or bs (4 + length (inner_behind 3 bs)) 0 ≡ 42
-user_form-last bs h =
-    let k = 3 + length (inner_behind 3 bs) in
-    let at_one : get_or (drop k bs) 1 0 ≡ 42 = ap (λ xs. get_or xs 1 0) (user_form-closes bs h) in
-    let place : k + 1 ≡ 4 + length (inner_behind 3 bs) = omega arith in
-    subst (λ i. get_or bs i 0 ≡ 42) place (sym (get_or-drop k bs 1 0) ∙ at_one)
+pub run_part-quiet : (n : ℕ) (behind : List ℕ) → IsQuiet (run_part n behind)
+run_part-quiet n behind = by (run_place false n behind)
+  where
+    by : (o : Option ℕ) → IsQuiet (option_map_or (λ place. code n (take place behind)) o (bare n))
+    by None = record { quiet = λ start ps. refl; ends = refl }
+    by (Some place) = record { quiet = λ start ps. refl; ends = refl }
 
-pub user_form-boundary : (bs : List ℕ) (n : ℕ) → IsUtf8 bs → has_user_form bs ≡ true → n ≡ 5 + length (inner_behind 3 bs) → IsCharBoundary bs n
-user_form-boundary bs n u h e =
-    let k = 4 + length (inner_behind 3 bs) in
-    let fits = user_form-fits bs h in
-    let star = user_form-last bs h in
-    let last : k + 1 ≡ n = omega arith in
-    subst (IsCharBoundary bs) last (IsCharBoundary-after_ascii bs k u (omega arith) (omega arith))
+pub Reading-run : (quoted : Bool) (line rest : List ℕ) (begin start run n : ℕ) (before : Option ℕ) (old found : List Span) →
+    Reading quoted line rest begin start before old found → run ≡ run_length rest → 0 < run →
+    n ≡ length (bytes_of (run_part run (drop run rest))) → n ≤ length rest →
+    Reading quoted line (drop n rest) begin (start + n) (Some 96) old found
+Reading-run quoted line rest begin start run n before old found r is some size fits =
+    let part = run_part run (drop run rest) in
+    let quiet = run_part-quiet run (drop run rest) in
+    let begins : not (nat_eq (run_length rest) 0) ≡ true = let s : 0 < run_length rest = omega (arith, is) in grind (arith, nat_tests) in
+    let other = option_map_or (λ form. span quoted form (inner_in form rest)) (span_form before rest) (single (slice_index (chars rest) 0)) in
+    let first : first_part quoted before rest ≡ part =
+    ap (λ t. cond t (run_part (run_length rest) (drop (run_length rest) rest)) other) begins ∙ ap (λ k. run_part k (drop k rest)) (sym is) in
+    let long : 0 < n = omega (arith, size, run_part-some run (drop run rest)) in
+    let next : Reading quoted line (drop n rest) begin (start + n) (Some (last_character part)) old (found ++ []) =
+    Reading-part quoted line rest begin start n before old found [] part r first (sym size) long fits
+    (λ ps. quiet.quiet start ps ∙ ap (λ k. spans_from (start + k) ps) (sym size)) in
+    subst (λ f. Reading quoted line (drop n rest) begin (start + n) (Some 96) old f) (append-nil found)
+    (subst (λ c. Reading quoted line (drop n rest) begin (start + n) (Some c) old (found ++ [])) quiet.ends next)
 
-pub inner-length : (bs : List ℕ) → length (inner_behind 3 bs) ≡ prefix_len is_inner (drop 3 bs)
-inner-length bs = omega (arith, length-take (prefix_len is_inner (drop 3 bs)) (drop 3 bs), prefix_len-le-length is_inner (drop 3 bs))
+-- ---- spans
 
--- what has the form of a user span has an Inner
-pub user_form-some : (bs : List ℕ) → has_user_form bs ≡ true → 0 < length (inner_behind 3 bs)
-user_form-some bs h =
-    let some = (and_parts (starts_with nat_eq bs (codes "@**")) _ (and_parts _ _ h).0).1 in
-    grind (arith, nat_tests)
+-- what has a form ends with its closing
+pub form-closes : (form : Form) (bs : List ℕ) → has_form form bs ≡ true →
+    drop (length (opening form) + length (inner_in form bs)) bs
+    ≡ closing form ++ drop (length (closing form)) (drop (length (opening form) + length (inner_in form bs)) bs)
+form-closes form bs h =
+    (starts_is Decides-eqb (drop (length (opening form) + length (inner_in form bs)) bs) (closing form) _ refl).0 (and_parts _ _ h).1
 
--- the form, by the number of bytes of the Inner
-user_form-is : (bs : List ℕ) (n : ℕ) → n ≡ prefix_len is_inner (drop 3 bs) →
-    has_user_form bs ≡ ((starts_with nat_eq bs (codes "@**") && not (nat_eq n 0)) && starts_with nat_eq (drop (3 + n) bs) (codes "**"))
-user_form-is bs n e =
-    ap (λ k. (starts_with nat_eq bs (codes "@**") && not (nat_eq k 0)) && starts_with nat_eq (drop (3 + k) bs) (codes "**")) (inner-length bs ∙ sym e)
+pub closing-some : (form : Form) → 0 < length (closing form)
+closing-some User = omega arith
+closing-some SilentUser = omega arith
+closing-some Group = omega arith
+closing-some SilentGroup = omega arith
 
-pub user_form-holds : (before : Option ℕ) (bs : List ℕ) (n : ℕ) → n ≡ prefix_len is_inner (drop 3 bs) → may_begin before ≡ true →
-    starts_with nat_eq bs (codes "@**") ≡ true → (n ≡ 0 → ⊥) → starts_with nat_eq (drop (3 + n) bs) (codes "**") ≡ true →
-    ((may_begin before && has_user_form bs) ≡ true) × (5 + n ≡ 5 + length (inner_behind 3 bs))
-user_form-holds before bs n e begins opens some closes =
-    let some' : not (nat_eq n 0) ≡ true = grind (arith, nat_tests) in (
-      and_from (may_begin before) (has_user_form bs) begins (user_form-is bs n e ∙ and_from _ _ (and_from _ _ opens some') closes),
-      omega (arith, inner-length bs),
-    )
+closing-last : (form : Form) (xs : List ℕ) → get_or (closing form ++ xs) (length (closing form) - 1) 0 ≡ 42
+closing-last User xs = refl
+closing-last SilentUser xs = refl
+closing-last Group xs = refl
+closing-last SilentGroup xs = refl
 
-and-false : (a : Bool) → (a && false) ≡ false
-and-false true = refl
-and-false false = refl
+pub form-fits : (form : Form) (bs : List ℕ) → has_form form bs ≡ true →
+    length (opening form) + length (inner_in form bs) + length (closing form) ≤ length bs
+form-fits form bs h =
+    let k = length (opening form) + length (inner_in form bs) in
+    let all : length (drop k bs) ≡ length (closing form) + length (drop (length (closing form)) (drop k bs)) =
+    ap length (form-closes form bs h) ∙ length-append (closing form) (drop (length (closing form)) (drop k bs)) in
+    let some = closing-some form in
+    omega (arith, all, length-drop k bs)
 
-pub user_form-empty : (before : Option ℕ) (bs : List ℕ) (n : ℕ) → n ≡ prefix_len is_inner (drop 3 bs) → n ≡ 0 →
-    (may_begin before && has_user_form bs) ≡ false
-user_form-empty before bs n e none =
-    let zero_long : has_user_form bs ≡ false =
-    user_form-is bs n e ∙ ap (λ k. (starts_with nat_eq bs (codes "@**") && not (nat_eq k 0)) && starts_with nat_eq (drop (3 + n) bs) (codes "**")) none
-    ∙ ap (λ t. t && starts_with nat_eq (drop (3 + n) bs) (codes "**")) (and-false _) in
-    ap (λ t. may_begin before && t) zero_long ∙ and-false _
+pub form-boundary : (form : Form) (bs : List ℕ) (n : ℕ) → IsUtf8 bs → has_form form bs ≡ true →
+    n ≡ length (opening form) + length (inner_in form bs) + length (closing form) → IsCharBoundary bs n
+form-boundary form bs n u h e =
+    let k = length (opening form) + length (inner_in form bs) in
+    let j = length (closing form) - 1 in
+    let some = closing-some form in
+    let fits = form-fits form bs h in
+    let star : get_or bs (k + j) 0 ≡ 42 =
+    sym (get_or-drop k bs j 0) ∙ ap (λ xs. get_or xs j 0) (form-closes form bs h) ∙ closing-last form (drop (length (closing form)) (drop k bs)) in
+    let last : (k + j) + 1 ≡ n = omega arith in
+    subst (IsCharBoundary bs) last (IsCharBoundary-after_ascii bs (k + j) u (omega arith) (omega (arith, star)))
 
-pub user_form-unclosed : (before : Option ℕ) (bs : List ℕ) (n : ℕ) → n ≡ prefix_len is_inner (drop 3 bs) →
-    starts_with nat_eq (drop (3 + n) bs) (codes "**") ≡ false → (may_begin before && has_user_form bs) ≡ false
-user_form-unclosed before bs n e open' =
-    let unclosed : has_user_form bs ≡ false =
-    user_form-is bs n e ∙ ap (λ t. (starts_with nat_eq bs (codes "@**") && not (nat_eq n 0)) && t) open' ∙ and-false _ in
-    ap (λ t. may_begin before && t) unclosed ∙ and-false _
+-- the form of a span that begins the bytes is one with which they begin
+pub span_form-has : (before : Option ℕ) (bs : List ℕ) (form : Form) → span_form before bs ≡ Some form → has_form form bs ≡ true
+span_form-has before bs form h = begins (may_begin before) h
+  where
+    last : (t : Bool) → has_form SilentGroup bs ≡ t → cond t (Some SilentGroup) None ≡ Some form → has_form form bs ≡ true
+    last true e h = let same : SilentGroup ≡ form = cc in subst (λ f. has_form f bs ≡ true) same e
+    last false e h = absurd cc
 
-pub Reading-user : (text rest : List ℕ) (start n : ℕ) (before : Option ℕ) (found : List Span) → Reading text rest start before found →
-    (may_begin before && has_user_form rest) ≡ true → n ≡ 5 + length (inner_behind 3 rest) →
-    Reading text (drop n rest) (start + n) (Some 42) (found ++ record { start = start; end = start + n; silent = false; group = false } ∷ [])
-Reading-user text rest start n before found r h e =
-    let part = user (inner_behind 3 rest) in
-    let fits : 5 + length (inner_behind 3 rest) ≤ length rest =
-    user_form-fits rest (and_parts (may_begin before) (has_user_form rest) h).1 in
-    let size : length (bytes_of part) ≡ n = omega (arith, length-append (inner_behind 3 rest) (codes "**")) in
-    let more : ℕ → List Span = λ k. record { start = start; end = start + k; silent = false; group = false } ∷ [] in
-    Reading-part text rest start n before found (more n) part r
-    (ap (λ t. cond t part (single (slice_index (chars rest) 0))) h) size (omega arith) (omega arith)
+    third : (t : Bool) → has_form Group bs ≡ t → cond t (Some Group) (cond (has_form SilentGroup bs) (Some SilentGroup) None) ≡ Some form → has_form form bs ≡ true
+    third true e h = let same : Group ≡ form = cc in subst (λ f. has_form f bs ≡ true) same e
+    third false e h = last (has_form SilentGroup bs) refl h
+
+    second : (t : Bool) → has_form SilentUser bs ≡ t → cond t (Some SilentUser) (cond (has_form Group bs) (Some Group) (cond (has_form SilentGroup bs) (Some SilentGroup) None)) ≡ Some form → has_form form bs ≡ true
+    second true e h = let same : SilentUser ≡ form = cc in subst (λ f. has_form f bs ≡ true) same e
+    second false e h = third (has_form Group bs) refl h
+
+    first : (t : Bool) → has_form User bs ≡ t → cond t (Some User) (cond (has_form SilentUser bs) (Some SilentUser) (cond (has_form Group bs) (Some Group) (cond (has_form SilentGroup bs) (Some SilentGroup) None))) ≡ Some form → has_form form bs ≡ true
+    first true e h = let same : User ≡ form = cc in subst (λ f. has_form f bs ≡ true) same e
+    first false e h = second (has_form SilentUser bs) refl h
+
+    begins : (t : Bool) → cond t (form_of bs) None ≡ Some form → has_form form bs ≡ true
+    begins true h = first (has_form User bs) refl h
+    begins false h = absurd cc
+
+pub Reading-span : (quoted : Bool) (line rest : List ℕ) (begin start n : ℕ) (before : Option ℕ) (old found : List Span) (form : Form) →
+    Reading quoted line rest begin start before old found → run_length rest ≡ 0 → span_form before rest ≡ Some form →
+    n ≡ length (opening form) + length (inner_in form rest) + length (closing form) →
+    Reading quoted line (drop n rest) begin (start + n) (Some 42) old
+    (found ++ record { start = start; end = start + n; silent = quoted || is_silent form; group = is_group form } ∷ [])
+Reading-span quoted line rest begin start n before old found form r none h e =
+    let part = span quoted form (inner_in form rest) in
+    let has = span_form-has before rest form h in
+    let fits = form-fits form rest has in
+    let some = closing-some form in
+    let size : length (bytes_of part) ≡ n =
+    length-append (opening form) (inner_in form rest ++ closing form) ∙ omega (arith, e, length-append (inner_in form rest) (closing form)) in
+    let more : ℕ → List Span = λ k. record { start = start; end = start + k; silent = quoted || is_silent form; group = is_group form } ∷ [] in
+    let first : first_part quoted before rest ≡ part =
+    ap (λ k. cond (not (nat_eq k 0)) (run_part k (drop k rest)) (option_map_or (λ f. span quoted f (inner_in f rest)) (span_form before rest) (single (slice_index (chars rest) 0)))) none
+    ∙ ap (λ o. option_map_or (λ f. span quoted f (inner_in f rest)) o (single (slice_index (chars rest) 0))) h in
+    Reading-part quoted line rest begin start n before old found (more n) part r first size (omega arith) (omega arith)
     (λ ps. ap (λ k. more k ++ spans_from (start + k) ps) size)
 
-pub Reading-single : (text rest after : List ℕ) (start c : ℕ) (before : Option ℕ) (found : List Span) → Reading text rest start before found →
-    (may_begin before && has_user_form rest) ≡ false → IsUtf8 rest → rest ≡ encode_utf8 c ++ after →
-    Reading text after (start + len_utf8 c) (Some c) found
-Reading-single text rest after start c before found r h u e =
+-- ---- characters
+
+pub Reading-single : (quoted : Bool) (line rest after : List ℕ) (begin start c : ℕ) (before : Option ℕ) (old found : List Span) →
+    Reading quoted line rest begin start before old found → run_length rest ≡ 0 → span_form before rest ≡ None → IsUtf8 rest →
+    rest ≡ encode_utf8 c ++ after → Reading quoted line after begin (start + len_utf8 c) (Some c) old found
+Reading-single quoted line rest after begin start c before old found r none h u e =
     let n = len_utf8 c in
     let size : length (encode_utf8 c) ≡ n = length-encode c in
     let all : length rest ≡ length (encode_utf8 c) + length after = ap length e ∙ length-append (encode_utf8 c) after in
     let bounds : (1 ≤ n) × (n ≤ 4) = len_utf8_bounds c in
     let is_c : slice_index (chars rest) 0 ≡ c = ap (λ cs. slice_index cs 0) (chars_past_char rest after c u e) in
-    let first : first_part before rest ≡ single c =
-    ap (λ t. cond t (user (inner_behind 3 rest)) (single (slice_index (chars rest) 0))) h ∙ ap single is_c in
+    let first : first_part quoted before rest ≡ single c =
+    ap (λ k. cond (not (nat_eq k 0)) (run_part k (drop k rest)) (option_map_or (λ f. span quoted f (inner_in f rest)) (span_form before rest) (single (slice_index (chars rest) 0)))) none
+    ∙ ap (λ o. option_map_or (λ f. span quoted f (inner_in f rest)) o (single (slice_index (chars rest) 0))) h ∙ ap single is_c in
     let left : drop n rest ≡ after =
     ap (λ k. drop k rest) (sym size) ∙ ap (drop (length (encode_utf8 c))) e ∙ drop-append_seam (encode_utf8 c) after in
-    let next : Reading text (drop n rest) (start + n) (Some c) (found ++ []) =
-    Reading-part text rest start n before found [] (single c) r first size bounds.0 (omega arith)
+    let next : Reading quoted line (drop n rest) begin (start + n) (Some c) old (found ++ []) =
+    Reading-part quoted line rest begin start n before old found [] (single c) r first size bounds.0 (omega arith)
     (λ ps. ap (λ k. spans_from (start + k) ps) size) in
-    subst (λ f. Reading text after (start + n) (Some c) f) (append-nil found)
-    (subst (λ bs. Reading text bs (start + n) (Some c) (found ++ [])) left next)
+    subst (λ f. Reading quoted line after begin (start + n) (Some c) old f) (append-nil found)
+    (subst (λ bs. Reading quoted line bs begin (start + n) (Some c) old (found ++ [])) left next)

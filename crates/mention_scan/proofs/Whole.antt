@@ -1,28 +1,39 @@
 -- The parts of a text make up the text.
-use Rattle.std.proofs.Common.{◌≡◌, ℕ, zero, suc, ◌+◌, ◌≤◌, ◌<◌, Bool, true, false, cond, ◌&&◌, List, [], ◌∷◌, ◌++◌, length, drop, Option, Some, None, refl, sym, ap, ◌∙◌, subst, arith, append_assoc, length-append, nat_eq}
-use Rattle.std.specs.Prelude.{IsUtf8, chars, codes, flat_map, slice_index}
+use Rattle.std.proofs.Common.{◌≡◌, ℕ, zero, suc, ◌+◌, ◌≤◌, ◌<◌, Bool, true, false, not, cond, ◌&&◌, List, [], ◌∷◌, ◌++◌, length, take, drop, Option, Some, None, refl, sym, ap, ◌∙◌, subst, arith, append_assoc, length-append, length-take, nat_eq}
+use Rattle.std.specs.Prelude.{IsUtf8, IsCharBoundary, chars, codes, flat_map, slice_index}
 use Rattle.std.specs.Char.{encode_utf8}
 use Rattle.std.specs.List.{prefix_len, starts_with}
-use Rattle.std.specs.Str.{all_scalars, encode_utf8_all}
+use Rattle.std.specs.Option.{option_map_or}
+use Rattle.std.specs.Str.{all_scalars, byte, encode_utf8_all}
+use borrow.Author.Tests.{eqb-true}
 use Rattle.std.proofs.Math.Seq.{drop-append_seam}
 use Rattle.std.proofs.lemmas.Bool.{and_parts}
-use Rattle.std.proofs.lemmas.Bool.Decides.{Decides-eqb}
+use Rattle.std.proofs.lemmas.Bool.Decides.{Decides-eqb, nat_tests}
 use Rattle.std.proofs.lemmas.List.{take-append-drop, drop-drop}
+use Rattle.std.proofs.lemmas.List.Sums.{prefix_len-le-length}
 use Rattle.std.proofs.lemmas.Slice.Eq.{starts_is}
 use Rattle.std.proofs.lemmas.Str.{IsUtf8-drop, chars-encodes, length-encode, len_utf8_bounds}
-use Rattle.mention_scan.specs.Division.{Part, user, single, bytes_of, last_character, may_begin, is_inner, has_user_form, inner_behind, parts, division}
-use Rattle.mention_scan.proofs.Reading.{user_form-closes, user_form-boundary, inner-length}
+use Rattle.mention_scan.specs.declared.form.Form.{Form}
+use Rattle.mention_scan.specs.Division.{Part, backquotes, bare, code, span, single, bytes_of, last_character, opening, closing, has_form, inner_in, is_inner, run_length, run_part, run_place, span_form, first_part, parts, parts_of_line}
+use Rattle.mention_scan.proofs.Runs.{RunAt, run_place-at, run_part-some, run_part-boundary}
+use Rattle.mention_scan.proofs.Reading.{closing-some, form-boundary, form-closes, span_form-has}
 
--- a text that is not empty is its first character and what stands behind it
-record Begun (bs : List ℕ) : Type 0 where
+-- a part stands first in the bytes, and a text behind it
+record Stands (bs : List ℕ) (part : Part) : Type 0 where
   after : List ℕ
-  stands : bs ≡ encode_utf8 (slice_index (chars bs) 0) ++ after
+  stands : bs ≡ bytes_of part ++ after
   text : IsUtf8 after
-  some : 0 < length (encode_utf8 (slice_index (chars bs) 0))
+  some : 0 < length (bytes_of part)
 
-begun-at : (bs cs : List ℕ) → all_scalars cs ≡ true → encode_utf8_all cs ≡ bs → 0 < length bs → Begun bs
-begun-at bs [] scalars spells some = absurd (omega (arith, ap length spells))
-begun-at bs (c ∷ cs) scalars spells some =
+-- what stands first in the bytes stands before the rest of them
+front-stands : (bs front after : List ℕ) → bs ≡ front ++ after → drop (length front) bs ≡ after
+front-stands bs front after e = ap (drop (length front)) e ∙ drop-append_seam front after
+
+-- ---- single characters
+
+single-at : (bs cs : List ℕ) → all_scalars cs ≡ true → encode_utf8_all cs ≡ bs → 0 < length bs → Stands bs (single (slice_index (chars bs) 0))
+single-at bs [] scalars spells some = absurd (omega (arith, ap length spells))
+single-at bs (c ∷ cs) scalars spells some =
     let size : 0 < length (encode_utf8 c) = omega (arith, length-encode c, (len_utf8_bounds c).0) in
     let tail : IsUtf8 (encode_utf8_all cs) = (cs, ((and_parts _ _ scalars).1, refl)) in
     let first : slice_index (chars bs) 0 ≡ c =
@@ -34,59 +45,113 @@ begun-at bs (c ∷ cs) scalars spells some =
       some = rw first size;
     }
 
-begun : (bs : List ℕ) → IsUtf8 bs → 0 < length bs → Begun bs
-begun bs u some = begun-at bs u.0 u.1.0 u.1.1 some
+single-stands : (bs : List ℕ) → IsUtf8 bs → 0 < length bs → Stands bs (single (slice_index (chars bs) 0))
+single-stands bs u some = single-at bs u.0 u.1.0 u.1.1 some
 
--- what stands first in the bytes stands before the rest of them
-front-stands : (bs front after : List ℕ) → bs ≡ front ++ after → drop (length front) bs ≡ after
-front-stands bs front after e = ap (drop (length front)) e ∙ drop-append_seam front after
+-- ---- runs
 
-user-stands : (bs : List ℕ) → has_user_form bs ≡ true →
-    bs ≡ bytes_of (user (inner_behind 3 bs)) ++ drop 2 (drop (3 + length (inner_behind 3 bs)) bs)
-user-stands bs h =
-    let inner = inner_behind 3 bs in
-    let closing : List ℕ = drop 2 (drop (3 + length inner) bs) in
-    let opened : bs ≡ codes "@**" ++ drop 3 bs =
-    (starts_is Decides-eqb bs (codes "@**") _ refl).0 ((and_parts (starts_with nat_eq bs (codes "@**")) _ (and_parts _ _ h).0).0) in
-    let behind : drop (length inner) (drop 3 bs) ≡ codes "**" ++ closing = drop-drop (length inner) 3 bs ∙ user_form-closes bs h in
-    let split : drop 3 bs ≡ inner ++ drop (length inner) (drop 3 bs) =
-    sym (take-append-drop (prefix_len is_inner (drop 3 bs)) (drop 3 bs)) ∙ ap (λ k. inner ++ drop k (drop 3 bs)) (sym (inner-length bs)) in
-    opened ∙ ap (λ xs. codes "@**" ++ xs) (split ∙ ap (λ xs. inner ++ xs) behind ∙ sym (append_assoc inner (codes "**") closing))
+-- a run and what stands behind it
+run-stands : (bs : List ℕ) → bs ≡ backquotes (run_length bs) ++ drop (run_length bs) bs
+run-stands [] = refl
+run-stands (b ∷ bs) = by (nat_eq b (byte "`")) refl (run-stands bs)
+  where
+    one : (k : ℕ) → suc (run_length bs) ≡ k → b ≡ byte "`" → bs ≡ backquotes (run_length bs) ++ drop (run_length bs) bs → b ∷ bs ≡ backquotes k ++ drop k (b ∷ bs)
+    one k e is rest = subst (λ m. b ∷ bs ≡ backquotes m ++ drop m (b ∷ bs)) e (ap (λ x. x ∷ bs) is ∙ ap (λ xs. byte "`" ∷ xs) rest)
 
-user-behind : (bs : List ℕ) → IsUtf8 bs → has_user_form bs ≡ true → IsUtf8 (drop 2 (drop (3 + length (inner_behind 3 bs)) bs))
-user-behind bs u h =
-    let n = 5 + length (inner_behind 3 bs) in
-    let size : length (bytes_of (user (inner_behind 3 bs))) ≡ n = omega (arith, length-append (inner_behind 3 bs) (codes "**")) in
-    let same : drop n bs ≡ drop 2 (drop (3 + length (inner_behind 3 bs)) bs) =
-    ap (λ k. drop k bs) (sym size) ∙ front-stands bs (bytes_of (user (inner_behind 3 bs))) _ (user-stands bs h) in
-    subst IsUtf8 same (IsUtf8-drop bs n u (user_form-boundary bs n u h refl))
+    by : (t : Bool) → nat_eq b (byte "`") ≡ t → bs ≡ backquotes (run_length bs) ++ drop (run_length bs) bs → b ∷ bs ≡ backquotes (cond t (1 + run_length bs) 0) ++ drop (cond t (1 + run_length bs) 0) (b ∷ bs)
+    by true is rest = one (1 + run_length bs) (omega arith) (eqb-true _ _ is) rest
+    by false is rest = refl
+
+run_of-stands : (n : ℕ) (bs : List ℕ) → n ≡ run_length bs → bs ≡ backquotes n ++ drop n bs
+run_of-stands n bs e = subst (λ m. bs ≡ backquotes m ++ drop m bs) (sym e) (run-stands bs)
+
+run_part-stands : (n : ℕ) (bs : List ℕ) → IsUtf8 bs → n ≡ run_length bs → 0 < n → Stands bs (run_part n (drop n bs))
+run_part-stands n bs u e some = by (run_place false n (drop n bs)) refl
+  where
+    behind : List ℕ
+    behind = drop n bs
+
+    made : (part : Part) (after : List ℕ) → bs ≡ bytes_of part ++ after → run_part n (drop n bs) ≡ part → Stands bs (run_part n (drop n bs))
+    made part after stands is =
+        let at : bs ≡ bytes_of (run_part n (drop n bs)) ++ after = subst (λ p. bs ≡ bytes_of p ++ after) (sym is) stands in
+        record {
+          after = after;
+          stands = at;
+          text = subst IsUtf8 (front-stands bs (bytes_of (run_part n (drop n bs))) after at) (IsUtf8-drop bs (length (bytes_of (run_part n (drop n bs)))) u (run_part-boundary n _ bs u e some refl));
+          some = omega (arith, run_part-some n (drop n bs));
+        }
+
+    by : (o : Option ℕ) → run_place false n (drop n bs) ≡ o → Stands bs (run_part n (drop n bs))
+    by None is = made (bare n) (drop n bs) (run_of-stands n bs e) (ap (λ o. option_map_or (λ p. code n (take p (drop n bs))) o (bare n)) is)
+    by (Some place) is =
+        let at = run_place-at false n (drop n bs) place is in
+        let inside = take place (drop n bs) in
+        let after = drop n (drop place (drop n bs)) in
+        let later : drop place (drop n bs) ≡ backquotes n ++ after = run_of-stands n (drop place (drop n bs)) (sym at.size) in
+        let split : drop n bs ≡ inside ++ (backquotes n ++ after) = sym (take-append-drop place (drop n bs)) ∙ ap (λ xs. inside ++ xs) later in
+        made (code n inside) after
+        (run_of-stands n bs e ∙ ap (λ xs. backquotes n ++ xs) (split ∙ sym (append_assoc inside (backquotes n) after)) ∙ sym (append_assoc (backquotes n) (inside ++ backquotes n) after))
+        (ap (λ o. option_map_or (λ p. code n (take p (drop n bs))) o (bare n)) is)
+
+-- ---- spans
+
+span-stands : (quoted : Bool) (form : Form) (bs : List ℕ) → IsUtf8 bs → has_form form bs ≡ true → Stands bs (span quoted form (inner_in form bs))
+span-stands quoted form bs u h =
+    let inner = inner_in form bs in
+    let k = length (opening form) in
+    let after = drop (length (closing form)) (drop (k + length inner) bs) in
+    let opened : bs ≡ opening form ++ drop k bs =
+    (starts_is Decides-eqb bs (opening form) _ refl).0 (and_parts (starts_with nat_eq bs (opening form)) _ (and_parts _ _ h).0).0 in
+    let long : length inner ≡ prefix_len is_inner (drop k bs) = omega (arith, length-take (prefix_len is_inner (drop k bs)) (drop k bs), prefix_len-le-length is_inner (drop k bs)) in
+    let behind : drop (length inner) (drop k bs) ≡ closing form ++ after = drop-drop (length inner) k bs ∙ form-closes form bs h in
+    let split : drop k bs ≡ inner ++ drop (length inner) (drop k bs) =
+    sym (take-append-drop (prefix_len is_inner (drop k bs)) (drop k bs)) ∙ ap (λ i. inner ++ drop i (drop k bs)) (sym long) in
+    let stands : bs ≡ bytes_of (span quoted form inner) ++ after =
+    opened ∙ ap (λ xs. opening form ++ xs) (split ∙ ap (λ xs. inner ++ xs) behind ∙ sym (append_assoc inner (closing form) after))
+    ∙ sym (append_assoc (opening form) (inner ++ closing form) after) in
+    let size : length (bytes_of (span quoted form inner)) ≡ k + length inner + length (closing form) =
+    length-append (opening form) (inner ++ closing form) ∙ omega (arith, length-append inner (closing form)) in
+    record {
+      after = after;
+      stands = stands;
+      text = subst IsUtf8 (front-stands bs (bytes_of (span quoted form inner)) after stands)
+          (IsUtf8-drop bs (length (bytes_of (span quoted form inner))) u (form-boundary form bs (length (bytes_of (span quoted form inner))) u h size));
+      some = omega (arith, size, closing-some form);
+    }
+
+-- ---- lines
+
+first-stands : (quoted : Bool) (before : Option ℕ) (bs : List ℕ) → IsUtf8 bs → 0 < length bs → Stands bs (first_part quoted before bs)
+first-stands quoted before bs u some =
+    by (nat_eq (run_length bs) 0) refl
+  where
+    other : (o : Option Form) → span_form before bs ≡ o → Stands bs (option_map_or (λ form. span quoted form (inner_in form bs)) o (single (slice_index (chars bs) 0)))
+    other None is = single-stands bs u some
+    other (Some form) is = span-stands quoted form bs u (span_form-has before bs form is)
+
+    by : (t : Bool) → nat_eq (run_length bs) 0 ≡ t → Stands bs (cond (not t) (run_part (run_length bs) (drop (run_length bs) bs)) (option_map_or (λ form. span quoted form (inner_in form bs)) (span_form before bs) (single (slice_index (chars bs) 0))))
+    by true is = other (span_form before bs) refl
+    by false is = run_part-stands (run_length bs) bs u refl (some_run is)
+      where
+        some_run : nat_eq (run_length bs) 0 ≡ false → 0 < run_length bs
+        some_run e = grind (arith, nat_tests)
 
 -- a part that stands first, and then the parts of what is left
-part-whole : (n : ℕ) (bs after : List ℕ) (part : Part) → length bs ≤ suc n → bs ≡ bytes_of part ++ after → 0 < length (bytes_of part) → IsUtf8 after →
-    ((bs : List ℕ) → length bs ≤ n → IsUtf8 bs → flat_map bytes_of (parts n (Some (last_character part)) bs) ≡ bs) →
-    bytes_of part ++ flat_map bytes_of (parts n (Some (last_character part)) (drop (length (bytes_of part)) bs)) ≡ bs
-part-whole n bs after part enough stands some u whole =
-    let short : length bs ≡ length (bytes_of part) + length after = ap length stands ∙ length-append (bytes_of part) after in
-    ap (λ xs. bytes_of part ++ flat_map bytes_of (parts n (Some (last_character part)) xs)) (front-stands bs (bytes_of part) after stands)
-    ∙ ap (λ xs. bytes_of part ++ xs) (whole after (omega arith) u) ∙ sym stands
+part-whole : (quoted : Bool) (n : ℕ) (bs : List ℕ) (part : Part) → length bs ≤ suc n → Stands bs part →
+    ((rest : List ℕ) → length rest ≤ n → IsUtf8 rest → flat_map bytes_of (parts quoted n (Some (last_character part)) rest) ≡ rest) →
+    bytes_of part ++ flat_map bytes_of (parts quoted n (Some (last_character part)) (drop (length (bytes_of part)) bs)) ≡ bs
+part-whole quoted n bs part enough s whole =
+    let short : length bs ≡ length (bytes_of part) + length s.after = ap length s.stands ∙ length-append (bytes_of part) s.after in
+    let some = s.some in
+    ap (λ xs. bytes_of part ++ flat_map bytes_of (parts quoted n (Some (last_character part)) xs)) (front-stands bs (bytes_of part) s.after s.stands)
+    ∙ ap (λ xs. bytes_of part ++ xs) (whole s.after (omega arith) s.text) ∙ sym s.stands
 
-parts-whole : (n : ℕ) (before : Option ℕ) (bs : List ℕ) → length bs ≤ n → IsUtf8 bs → flat_map bytes_of (parts n before bs) ≡ bs
-parts-whole n before [] enough u = refl
-parts-whole zero before (b ∷ bs) enough u = absurd (omega arith)
-parts-whole (suc n) before (b ∷ bs) enough u =
-    let rest = b ∷ bs in
-    let taken = user (inner_behind 3 rest) in
-    let passed = single (slice_index (chars rest) 0) in
-    let part : Bool → Part = λ t. cond t taken passed in
-    let first = begun rest u (omega arith) in
-    (elim (may_begin before && has_user_form rest) as
-    (λ t. (may_begin before && has_user_form rest) ≡ t →
-    bytes_of (part t) ++ flat_map bytes_of (parts n (Some (last_character (part t))) (drop (length (bytes_of (part t))) rest)) ≡ rest) [
-      | true ↦ λ h. let form = (and_parts (may_begin before) (has_user_form rest) h).1 in
-          part-whole n rest (drop 2 (drop (3 + length (inner_behind 3 rest)) rest)) taken enough (user-stands rest form) (omega arith) (user-behind rest u form)
-          (λ xs. parts-whole n (Some (last_character taken)) xs)
-      | false ↦ λ h. part-whole n rest first.after passed enough first.stands first.some first.text (λ xs. parts-whole n (Some (last_character passed)) xs)
-    ]) refl
+parts-whole : (quoted : Bool) (n : ℕ) (before : Option ℕ) (bs : List ℕ) → length bs ≤ n → IsUtf8 bs → flat_map bytes_of (parts quoted n before bs) ≡ bs
+parts-whole quoted n before [] enough u = refl
+parts-whole quoted zero before (b ∷ bs) enough u = absurd (omega arith)
+parts-whole quoted (suc n) before (b ∷ bs) enough u =
+    part-whole quoted n (b ∷ bs) (first_part quoted before (b ∷ bs)) enough (first-stands quoted before (b ∷ bs) u (omega arith))
+    (λ rest. parts-whole quoted n (Some (last_character (first_part quoted before (b ∷ bs)))) rest)
 
-pub division-whole : (text : List ℕ) → IsUtf8 text → flat_map bytes_of (division text) ≡ text
-division-whole text u = parts-whole (length text) None text (omega arith) u
+pub line-whole : (quoted : Bool) (line : List ℕ) → IsUtf8 line → flat_map bytes_of (parts_of_line quoted line) ≡ line
+line-whole quoted line u = parts-whole quoted (length line) None line (omega arith) u

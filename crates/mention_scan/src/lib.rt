@@ -1,7 +1,12 @@
 //! Where a text mentions someone, and whom it mentions.
 #![tactic(auto)]
 
+mod fence;
+mod form;
+mod inner;
+mod line;
 mod mentions;
+mod run;
 mod span;
 mod spans;
 

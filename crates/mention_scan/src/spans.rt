@@ -1,16 +1,15 @@
 //! The spans of a text.
-ghost use Rattle.std.specs.Prelude.{◌≡◌, ℕ, ◌+◌, ◌≤◌, ◌&&◌, Bool, true, false, length, drop, All, IfOk, MatchOption, flat_map};
-ghost use Rattle.std.specs.List.{prefix_len};
-ghost use Rattle.mention_scan.specs.Division.{may_precede, may_begin, is_inner, has_user_form, inner_behind, bytes_of, division, spans_of, LiesWithin};
+ghost use Rattle.std.specs.Prelude.{◌≡◌, ◌==◌, ◌+◌, ◌^◌, ◌<◌, ◌≤◌, ◌++◌, length, All, IfOk, OnOk, flat_map};
+ghost use Rattle.std.specs.List.{position_or_len};
+ghost use Rattle.mention_scan.specs.Division.{bytes_of, division, manner_of, parts_read, spans_from, spans_of, LiesWithin};
 
 use crate::Span;
+use crate::fence::Fence;
+use crate::line::{Manner, scan_line};
 use chat_model::{List, OutOfMemory};
 use std::alloc::Global;
 
-/// How many bytes an Inner has at least.
-const LEAST_INNER: usize = 1;
-
-/// The spans of a text, in order, by one reading from left to right.
+/// The spans of a text, in order, by one reading from left to right, line by line.
 pub fn scan(alloc: Global, text: &str) -> Result<List<Span>, OutOfMemory>
     ensures spans { IfOk result (λ s. s ≡ spans_of text.now) }
     ensures within { IfOk result (λ s. All (LiesWithin text.now) s) }
@@ -21,66 +20,46 @@ pub fn scan(alloc: Global, text: &str) -> Result<List<Span>, OutOfMemory>
     let mut found = List::new(alloc);
     let mut rest = text;
     let mut start = 0;
-    let mut before = None;
-    'reading: loop {
-        if let Some(length) = user_span_length(before, rest.as_bytes()) {
-            let end = start + length;
-            found.push(Span {
-                start,
-                end,
-                silent: false,
-                group: false,
-            })?;
-            rest = &rest[length..];
-            start = end;
-            before = Some('*');
-        } else {
-            let mut characters = rest.chars();
-            let Some(c) = characters.next() else {
-                return Ok(found);
-            };
-            rest = characters.as_str();
-            start += c.len_utf8();
-            before = Some(c);
+    let mut current = None;
+    'lines: loop {
+        let length = line_length(rest.as_bytes());
+        let line = &rest[..length];
+        scan_in_fence(current, line, start, &mut found)?;
+        if length == rest.len() {
+            return Ok(found);
         }
+        current = Fence::behind(current, line.as_bytes());
+        rest = &rest[length + 1..];
+        start += length + 1;
     }
 }
 
-/// How many bytes the user span has that begins these bytes, behind this character, if one does.
-fn user_span_length(before: Option<char>, bytes: &[u8]) -> Option<usize>
-    ensures { let begins = may_begin before && has_user_form bytes.now in
-        MatchOption result (begins ≡ false)
-        (λ n. (begins ≡ true) × (n ≡ 5 + length (inner_behind 3 bytes.now))) }
+/// Adds the spans of a line that begins at this byte of the text and is read where this fence is open.
+fn scan_in_fence(
+    current: Option<Fence>,
+    line: &str,
+    start: usize,
+    found: &mut List<Span>,
+) -> Result<(), OutOfMemory>
+    requires fits { start + length line.now < 2 ^ 64 }
+    ensures { OnOk result (found.new ≡ found.old ++ spans_from start (parts_read (manner_of current line.now) line.now)) }
 {
-    if !bytes.starts_with(b"@**") || !lets_begin(before) {
-        return None;
+    match Manner::of(current, line.as_bytes()) {
+        Manner::Fenced => Ok(()),
+        Manner::Quoted => scan_line(line, start, true, found),
+        Manner::Plain => scan_line(line, start, false, found),
     }
-    let length = inner_length(&bytes[3..]);
-    if length < LEAST_INNER || !bytes[3 + length..].starts_with(b"**") {
-        return None;
-    }
-    Some(5 + length)
 }
 
-/// How many bytes come before the next `*` or line feed.
-fn inner_length(bytes: &[u8]) -> usize
-    ensures value { result ≡ prefix_len is_inner bytes.now }
+/// How many bytes stand before the first line feed.
+fn line_length(bytes: &[u8]) -> usize
+    ensures value { result ≡ position_or_len (λ b. b == 10) bytes.now }
     ensures bound { result ≤ length bytes.now }
 {
     for (i, b) in bytes.iter().enumerate() {
-        if *b == b'*' || *b == b'\n' {
+        if *b == b'\n' {
             return i;
         }
     }
     bytes.len()
-}
-
-/// Whether a span may begin behind this character.
-fn lets_begin(before: Option<char>) -> bool
-    ensures { result ≡ may_begin before }
-{
-    match before {
-        None => true,
-        Some(c) => c.is_whitespace() || matches!(c, '\'' | '"' | '(' | '{' | '[' | '/' | '<'),
-    }
 }

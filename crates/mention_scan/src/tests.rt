@@ -1,28 +1,270 @@
 use crate::{Span, resolve, scan};
-use chat_model::{Text, UserId, UserName};
+use chat_model::{GroupId, GroupName, Text, UserId, UserName};
+use std::alloc::Global;
+use std::process::Abort;
 use std::test::Fail;
 
-/// A text, its only span, and the only user whom it mentions.
-type Row = (&'static str, Option<(usize, usize)>, Option<u64>);
+/// A text, its spans by start, end, silent and group, the users and the groups that it mentions, and whether it mentions
+/// a channel and a topic.
+type Row = (
+    &'static str,
+    &'static [(usize, usize, bool, bool)],
+    &'static [u64],
+    &'static [u64],
+    (bool, bool),
+);
 
-const ROWS: [Row; 12] = [
-    ("", None, None),
-    ("@**Ada**", Some((0, 8)), Some(1)),
-    ("x@**Ada**", None, None),
-    ("(@**ADA**)", Some((1, 9)), Some(1)),
-    ("@**Ben**", Some((0, 8)), None),
-    ("@****", None, None),
-    ("@**Ada**@**Ada**", Some((0, 8)), Some(1)),
-    ("hi\n@**Ada**", Some((3, 11)), Some(1)),
-    ("\u{3000}@**Ada**", Some((3, 11)), Some(1)),
-    ("é@**Ada**", None, None),
-    ("@**Ada*", None, None),
-    ("@**A\nda**", None, None),
+const NONE: (bool, bool) = (false, false);
+
+/// The table of what texts mention.
+const ROWS: [Row; 17] = [
+    ("", &[], &[], &[], NONE),
+    ("@**Ada**", &[(0, 8, false, false)], &[1], &[], NONE),
+    ("x@**Ada**", &[], &[], &[], NONE),
+    ("(@**ADA**)", &[(1, 9, false, false)], &[1], &[], NONE),
+    ("@**Ben**", &[(0, 8, false, false)], &[], &[], NONE),
+    ("@**Ben|3**", &[(0, 10, false, false)], &[3], &[], NONE),
+    ("@**|2**", &[(0, 7, false, false)], &[2], &[], NONE),
+    ("@**Ada|2**", &[(0, 10, false, false)], &[], &[], NONE),
+    ("@_**Ada**", &[(0, 9, true, false)], &[], &[], NONE),
+    ("@*OPS*", &[(0, 6, false, true)], &[], &[1], NONE),
+    ("`@**Ada**`", &[], &[], &[], NONE),
+    ("` @**Ada**", &[(2, 10, false, false)], &[1], &[], NONE),
+    ("> @**Ada**", &[(2, 10, true, false)], &[], &[], NONE),
+    (
+        "@**all** @**topic** @**All**",
+        &[
+            (0, 8, false, false),
+            (9, 19, false, false),
+            (20, 28, false, false),
+        ],
+        &[],
+        &[],
+        (true, true),
+    ),
+    ("@****", &[], &[], &[], NONE),
+    ("@**Ada**@**Ada**", &[(0, 8, false, false)], &[1], &[], NONE),
+    (
+        "~~~\n@**Ada**\n~~~\n@**Ada**",
+        &[(17, 25, false, false)],
+        &[1],
+        &[],
+        NONE,
+    ),
+];
+
+/// Fences: how they open, what closes them, and what stands in them.
+const FENCES: [Row; 13] = [
+    // closed by a longer run, behind which spaces may stand
+    (
+        "```\n@**Ada**\n`````  \n@**Ada**",
+        &[(21, 29, false, false)],
+        &[1],
+        &[],
+        NONE,
+    ),
+    // a shorter run, and a run of the other character, don't close
+    ("````\n```\n@**Ada**", &[], &[], &[], NONE),
+    ("```\n~~~\n@**Ada**", &[], &[], &[], NONE),
+    // nor does a run behind which a word stands
+    ("```\n``` a\n@**Ada**", &[], &[], &[], NONE),
+    // closed by the end of the text
+    ("```", &[], &[], &[], NONE),
+    // two are no fence
+    ("~~\n@**Ada**", &[(3, 11, false, false)], &[1], &[], NONE),
+    // the lines that open and close hold no span
+    ("~~~ @**Ada**\n~~~", &[], &[], &[], NONE),
+    // a quote fence, with spaces round its word
+    (
+        "```  quote  \n@**Ada**\n```\n@**Ada**",
+        &[(13, 21, true, false), (26, 34, false, false)],
+        &[1],
+        &[],
+        NONE,
+    ),
+    // another word makes a code fence
+    ("```quotes\n@**Ada**", &[], &[], &[], NONE),
+    ("``` Quote\n@**Ada**", &[], &[], &[], NONE),
+    // no further fence opens in a quote fence
+    (
+        "~~~quote\n```\n@**Ada**\n```\n~~~\n@**Ben|2**",
+        &[(13, 21, true, false), (30, 40, false, false)],
+        &[2],
+        &[],
+        NONE,
+    ),
+    // a carriage return stands at the end of its line: the word isn't `quote`, and the run doesn't close
+    (
+        "~~~quote\r\n@**Ada**\r\n~~~\r\n@**Ada**",
+        &[],
+        &[],
+        &[],
+        NONE,
+    ),
+    // a line that begins with a space opens no fence
+    (" ```\n@**Ada**", &[(5, 13, false, false)], &[1], &[], NONE),
+];
+
+/// Code within a line, and what may stand before a span.
+const LINES: [Row; 17] = [
+    // a later run of exactly as many backquotes
+    ("`` @**Ada** ` ``@*ops*", &[], &[], &[], NONE),
+    (
+        "`` @**Ada** ` @*ops*",
+        &[(3, 11, false, false), (14, 20, false, true)],
+        &[1],
+        &[1],
+        NONE,
+    ),
+    // the nearest one
+    (
+        "` ` @**Ada** ` `",
+        &[(4, 12, false, false)],
+        &[1],
+        &[],
+        NONE,
+    ),
+    // code doesn't cross a line
+    ("` @**Ada**\n`", &[(2, 10, false, false)], &[1], &[], NONE),
+    // a carriage return before a line feed is whitespace
+    (
+        "\r@**Ada**\r\n@**Ada**",
+        &[(1, 9, false, false), (11, 19, false, false)],
+        &[1],
+        &[],
+        NONE,
+    ),
+    // each of the characters that may stand before a span
+    (
+        "'@*ops* \"@*ops* (@*ops* {@*ops*",
+        &[
+            (1, 7, false, true),
+            (9, 15, false, true),
+            (17, 23, false, true),
+            (25, 31, false, true),
+        ],
+        &[],
+        &[1],
+        NONE,
+    ),
+    (
+        "[@*ops* /@*ops* <@*ops*",
+        &[
+            (1, 7, false, true),
+            (9, 15, false, true),
+            (17, 23, false, true),
+        ],
+        &[],
+        &[1],
+        NONE,
+    ),
+    (
+        "\u{3000}@**Ada**",
+        &[(3, 11, false, false)],
+        &[1],
+        &[],
+        NONE,
+    ),
+    ("é@**Ada**", &[], &[], &[], NONE),
+    (">@**Ada**", &[], &[], &[], NONE),
+    // forms that don't fit
+    ("@***Ada**", &[], &[], &[], NONE),
+    ("@**Ada*", &[], &[], &[], NONE),
+    ("@**A\nda**", &[], &[], &[], NONE),
+    ("@*ops**", &[(0, 6, false, true)], &[], &[1], NONE),
+    ("@**Ada***", &[(0, 8, false, false)], &[1], &[], NONE),
+    ("@_*ops*", &[(0, 7, true, true)], &[], &[], NONE),
+    ("> a\n@**Ada**", &[(4, 12, false, false)], &[1], &[], NONE),
+];
+
+/// Whom an Inner mentions.
+const INNERS: [Row; 10] = [
+    ("@**|**", &[(0, 6, false, false)], &[], &[], NONE),
+    ("@**Ada|**", &[(0, 9, false, false)], &[], &[], NONE),
+    ("@**aDA|01**", &[(0, 11, false, false)], &[1], &[], NONE),
+    (
+        "@**|00000000000000000001**",
+        &[(0, 26, false, false)],
+        &[],
+        &[],
+        NONE,
+    ),
+    (
+        "@**|0000000000000000001**",
+        &[(0, 25, false, false)],
+        &[1],
+        &[],
+        NONE,
+    ),
+    ("@**|9**", &[(0, 7, false, false)], &[], &[], NONE),
+    ("@**Ada|x**", &[(0, 10, false, false)], &[], &[], NONE),
+    ("@**x|Ada|1**", &[(0, 12, false, false)], &[], &[], NONE),
+    (
+        "@**nobody** @*nobody*",
+        &[(0, 11, false, false), (12, 21, false, true)],
+        &[],
+        &[],
+        NONE,
+    ),
+    (
+        "@**|3** @**Ben|2** @**Ada**",
+        &[
+            (0, 7, false, false),
+            (8, 18, false, false),
+            (19, 27, false, false),
+        ],
+        &[1, 2, 3],
+        &[],
+        NONE,
+    ),
 ];
 
 #[test]
 fn worked_texts(rt: HostRuntime) -> Result<(), Fail> {
+    rows_hold(&rt, rt.alloc(), &ROWS)
+}
+
+#[test]
+fn texts_with_fences(rt: HostRuntime) -> Result<(), Fail> {
+    rows_hold(&rt, rt.alloc(), &FENCES)
+}
+
+#[test]
+fn lines_with_code(rt: HostRuntime) -> Result<(), Fail> {
+    rows_hold(&rt, rt.alloc(), &LINES)
+}
+
+#[test]
+fn names_and_numbers(rt: HostRuntime) -> Result<(), Fail> {
+    rows_hold(&rt, rt.alloc(), &INNERS)
+}
+
+/// A user may be named like a wildcard in other letters.
+#[test]
+fn a_user_named_like_a_wildcard(rt: HostRuntime) -> Result<(), Fail> {
     let alloc = rt.alloc();
+    let users = [UserName {
+        id: UserId(7),
+        name: Text::from_str(alloc, "All")?,
+    }];
+    for (text, named) in [("@**All**", true), ("@**all**", false)] {
+        let spans = scan(alloc, text)?;
+        let mentions = resolve(alloc, text, spans.as_slice(), &users, &[])?;
+        assert_eq!(rt;
+            mentions.users.as_slice().len(),
+            usize::from(named),
+            "the users in {text:?}"
+        );
+        assert_eq!(rt;
+            mentions.channel_wildcard,
+            !named,
+            "the channel in {text:?}"
+        );
+    }
+    Ok(())
+}
+
+fn rows_hold(rt: &impl Abort, alloc: Global, rows: &[Row]) -> Result<(), Fail> {
     let users = [
         UserName {
             id: UserId(1),
@@ -37,42 +279,64 @@ fn worked_texts(rt: HostRuntime) -> Result<(), Fail> {
             name: Text::from_str(alloc, "ben")?,
         },
     ];
-    for (text, place, user) in ROWS {
+    let groups = [GroupName {
+        id: GroupId(1),
+        name: Text::from_str(alloc, "ops")?,
+    }];
+    for (text, places, named, named_groups, wildcards) in rows {
         let spans = scan(alloc, text)?;
-        let mentions = resolve(alloc, text, spans.as_slice(), &users, &[])?;
-        let span = place.map(|(start, end)| Span {
-            start,
-            end,
-            silent: false,
-            group: false,
-        });
-        assert_eq!(rt;
-            spans.as_slice().first().copied(),
-            span,
-            "the span of {text:?}"
-        );
+        let mentions = resolve(alloc, text, spans.as_slice(), &users, &groups)?;
         assert_eq!(rt;
             spans.as_slice().len(),
-            usize::from(span.is_some()),
+            places.len(),
             "the spans of {text:?}"
         );
-        assert_eq!(rt;
-            mentions.users.as_slice().first().copied(),
-            user.map(UserId),
-            "the user in {text:?}"
-        );
+        for (i, (start, end, silent, group)) in places.iter().enumerate() {
+            let span = Span {
+                start: *start,
+                end: *end,
+                silent: *silent,
+                group: *group,
+            };
+            assert_eq!(rt;
+                spans.as_slice().get(i).copied(),
+                Some(span),
+                "a span of {text:?}"
+            );
+        }
         assert_eq!(rt;
             mentions.users.as_slice().len(),
-            usize::from(user.is_some()),
+            named.len(),
             "the users in {text:?}"
         );
-        assert!(rt;
-            mentions.groups.as_slice().is_empty(),
+        for (i, id) in named.iter().enumerate() {
+            assert_eq!(rt;
+                mentions.users.as_slice().get(i).copied(),
+                Some(UserId(*id)),
+                "a user in {text:?}"
+            );
+        }
+        assert_eq!(rt;
+            mentions.groups.as_slice().len(),
+            named_groups.len(),
             "the groups in {text:?}"
         );
-        assert!(rt;
-            !mentions.channel_wildcard && !mentions.topic_wildcard,
-            "the wildcards in {text:?}"
+        for (i, id) in named_groups.iter().enumerate() {
+            assert_eq!(rt;
+                mentions.groups.as_slice().get(i).copied(),
+                Some(GroupId(*id)),
+                "a group in {text:?}"
+            );
+        }
+        assert_eq!(rt;
+            mentions.channel_wildcard,
+            wildcards.0,
+            "the channel in {text:?}"
+        );
+        assert_eq!(rt;
+            mentions.topic_wildcard,
+            wildcards.1,
+            "the topic in {text:?}"
         );
     }
     Ok(())

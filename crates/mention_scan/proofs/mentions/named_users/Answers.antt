@@ -1,14 +1,14 @@
 use Rattle.std.proofs.Common.{◌≡◌, ◌∙◌, [], ◌∷◌, ◌++◌, Bool, true, false, ap, filter, get_or, map, sym, take}
 use Rattle.std.specs.List.{list_any}
 use Rattle.chat_model.specs.declared.mentions.UserName.{UserName}
-use Rattle.mention_scan.specs.Mentions.{inner_of, is_named}
+use Rattle.mention_scan.specs.Mentions.{inner_of, speaks_of}
 use Rattle.mention_scan.proofs.Judging.{kept_more, left_more}
 use Rattle.mention_scan.proofs.mentions.named_users.Goals as goal
 use Rattle.mention_scan.proofs.mentions.named_users.Goals.{then-names_user+in_ok-push, else-names_user}
 
 pub loop-user-preserved : goal.loop-user-preserved
 loop-user-preserved c =
-    let p : UserName → Bool = λ u. list_any (λ s. is_named (inner_of c.args.text.now s) u) c.args.spans.now in
+    let p : UserName → Bool = λ u. list_any (λ s. speaks_of (inner_of c.args.text.now s) u) c.args.spans.now in
     let user = c.user-item.result in
     let users = c.args.users.now in
     let i = c.loop-user.user-index in

@@ -1,0 +1,12 @@
+use Rattle.std.proofs.Common.{◌≡◌, ◌+◌, ◌<◌, ◌^◌, true, take, length}
+use Rattle.std.specs.Char.{is_ascii_digit}
+use Rattle.std.specs.List.{list_all}
+use Rattle.mention_scan.specs.Mentions.{decimal_value}
+use Rattle.mention_scan.proofs.inner.number_of.Given as goal
+
+abbrev pub invariant-loop-digit : goal.invariant-loop-digit
+invariant-loop-digit l = record {
+  digits : list_all is_ascii_digit (take l.digit-index l.digits) ≡ true;
+  value : l.value ≡ decimal_value (take l.digit-index l.digits);
+  bound : l.value < 10 ^ l.digit-index;
+}

@@ -1,7 +1,0 @@
-use Rattle.std.proofs.Common.{◌≡◌, filter, take}
-use Rattle.mention_scan.specs.Mentions.{inner_of, is_unshared}
-use Rattle.mention_scan.proofs.mentions.unshared_names.Given as goal
-
-abbrev pub invariant-loop-span : goal.invariant-loop-span
-invariant-loop-span l =
-    l.found ≡ filter (λ s. is_unshared l.users (inner_of l.text s)) (take l.span-index l.spans)
