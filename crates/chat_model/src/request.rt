@@ -1,7 +1,7 @@
 //! What a client asks, what it is answered, and why it is refused.
 ghost use Rattle.std.specs.Prelude.{◌≡◌, IfOk};
 
-use crate::{ChannelId, DealNo, MessageId, OutOfMemory, Text, UserId};
+use crate::{ChannelId, DealNo, GroupId, List, MessageId, OutOfMemory, Text, UserId};
 use std::alloc::Global;
 
 /// A change that a client asks for.
@@ -10,6 +10,16 @@ pub enum Request {
     AddUser {
         name: Text,
         bot: bool,
+    },
+    /// The members may stand in any order and repeat; the event keeps them ascending, once each.
+    AddGroup {
+        name: Text,
+        members: List<UserId>,
+    },
+    Member {
+        group: GroupId,
+        user: UserId,
+        on: bool,
     },
     AddChannel {
         name: Text,
@@ -37,6 +47,15 @@ impl Request {
                 name: name.copy()?,
                 bot: *bot,
             }),
+            Request::AddGroup { name, members } => Ok(Request::AddGroup {
+                name: name.copy()?,
+                members: members.copy()?,
+            }),
+            Request::Member { group, user, on } => Ok(Request::Member {
+                group: *group,
+                user: *user,
+                on: *on,
+            }),
             Request::AddChannel { name } => Ok(Request::AddChannel { name: name.copy()? }),
             Request::Subscribe { user, channel, on } => Ok(Request::Subscribe {
                 user: *user,
@@ -62,6 +81,7 @@ impl Request {
 #[derive(Clone, Copy, Debug, PartialEq, Eq)]
 pub enum Answer {
     User(UserId),
+    Group(GroupId),
     Channel(ChannelId),
     Sent { message: MessageId, deal: DealNo },
     Done,
@@ -74,6 +94,23 @@ pub enum Refusal {
     NoUser,
     /// 11: the channel does not exist.
     NoChannel,
+    /// 13: the group does not exist.
+    NoGroup,
+    /// 14: a channel is made and a channel has that name, or a group is made and a group has it, without ASCII case.
+    Exists,
     /// 16: the sender is not subscribed to the channel.
     NotSubscribed,
+    /// 17: the text has only whitespace.
+    EmptyText,
+    /// 18: the text has more than 10,000 characters.
+    TextTooLong,
+    /// 19: the topic has more than 60 characters.
+    TopicTooLong,
+    /// 23: a list of the request has more items than the limit, or the channel of a send more subscribers.
+    TooMany { limit: u64 },
+    /// 24: the name has more than 100 characters.
+    NameTooLong,
+    /// 25: the name is empty, begins or ends with a space, or holds a control character or one of `*`, `|`, `@`, `\`,
+    /// `>`, `"` and a backquote.
+    BadName,
 }

@@ -1,3 +1,5 @@
+pub mod Bare
+pub mod Divides
 pub mod Judging
 pub mod Lines
 pub mod Reading

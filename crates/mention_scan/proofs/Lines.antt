@@ -1,7 +1,7 @@
 -- How far a reading of a text has come, line by line.
-use Rattle.std.proofs.Common.{◌≡◌, ℕ, zero, suc, ◌+◌, ◌-◌, ◌≤◌, ◌<◌, Bool, true, false, not, cond, List, [], ◌∷◌, ◌++◌, length, take, drop, Option, Some, None, refl, sym, ap, ◌∙◌, subst, arith, append_assoc, append-nil, length-append, length-drop, length-take, get_or, nat_eq, ⊎_elim}
+use Rattle.std.proofs.Common.{◌≡◌, ℕ, zero, suc, ◌+◌, ◌-◌, ◌≤◌, ◌<◌, Bool, true, false, not, cond, List, [], ◌∷◌, ◌++◌, length, take, drop, Option, None, refl, sym, ap, ◌∙◌, subst, arith, append_assoc, append-nil, length-append, length-drop, length-take, get_or, ⊎_elim}
 use Rattle.std.specs.Prelude.{◌==◌, IsCharBoundary, IsUtf8, flat_map, slice_range}
-use Rattle.std.specs.List.{before_first, after_first, onto_first, position_or_len, slice_split}
+use Rattle.std.specs.List.{onto_first, position_or_len}
 use Rattle.std.proofs.lemmas.List.{drop_more, take-append-drop, take_all}
 use borrow.Author.Tests.{eqb-true}
 use Rattle.std.proofs.lemmas.List.Sums.{prefix_len-le-length, prefix_len_stops}
@@ -43,12 +43,12 @@ manner-whole Quoted line u = line-whole true line u
 manner-whole Plain line u = line-whole false line u
 
 -- a text has a line at least
-record IsSomeLines (lines : List (List ℕ)) : Type 0 where
+pub record IsSomeLines (lines : List (List ℕ)) : Type 0 where
   first : List ℕ
   others : List (List ℕ)
   is : lines ≡ first ∷ others
 
-lines-some : (text : List ℕ) → IsSomeLines (lines_of text)
+pub lines-some : (text : List ℕ) → IsSomeLines (lines_of text)
 lines-some [] = record { first = []; others = []; is = refl }
 lines-some (b ∷ bs) = by (b == line_feed) (lines-some bs)
   where
@@ -57,7 +57,7 @@ lines-some (b ∷ bs) = by (b == line_feed) (lines-some bs)
     by false s = record { first = b ∷ s.first; others = s.others; is = ap (onto_first b) s.is }
 
 -- a text without a line feed is one line
-lines-one : (bs : List ℕ) → position_or_len (λ b. b == 10) bs ≡ length bs → lines_of bs ≡ bs ∷ []
+pub lines-one : (bs : List ℕ) → position_or_len (λ b. b == 10) bs ≡ length bs → lines_of bs ≡ bs ∷ []
 lines-one [] e = refl
 lines-one (b ∷ bs) e = by (b == 10) (lines-one bs) e
   where
@@ -70,7 +70,7 @@ lines-one (b ∷ bs) e = by (b == 10) (lines-one bs) e
 line_feed-passes : (start : ℕ) (qs : List Part) → spans_from start (single line_feed ∷ qs) ≡ spans_from (start + 1) qs
 line_feed-passes start qs = ap (λ k. spans_from (start + k) qs) (length-encode 10)
 
-parts_of_lines-more : (fence : Option Fence) (line : List ℕ) (lines : List (List ℕ)) → IsSomeLines lines →
+pub parts_of_lines-more : (fence : Option Fence) (line : List ℕ) (lines : List (List ℕ)) → IsSomeLines lines →
     parts_of_lines fence (line ∷ lines) ≡ parts_read (manner_of fence line) line ++ single line_feed ∷ parts_of_lines (fence_behind fence line) lines
 parts_of_lines-more fence line lines s =
     subst (λ ls. parts_of_lines fence (line ∷ ls) ≡ parts_read (manner_of fence line) line ++ single line_feed ∷ parts_of_lines (fence_behind fence line) ls) (sym s.is) refl

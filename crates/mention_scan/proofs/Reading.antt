@@ -1,12 +1,10 @@
 -- How far a reading of a line has come, and what one part more does to it.
-use Rattle.std.proofs.Common.{◌≡◌, ℕ, zero, suc, ◌+◌, ◌-◌, ◌≤◌, ◌<◌, Bool, true, false, not, ◌&&◌, ◌||◌, cond, get_or, get_or-drop, List, [], ◌∷◌, ◌++◌, length, take, drop, Option, None, Some, refl, sym, ap, ◌∙◌, subst, arith, append_assoc, length-append, length-drop, length-take, nat_eq, append-nil}
-use Rattle.std.specs.Prelude.{codes, chars, slice_index, IsUtf8, IsCharBoundary}
+use Rattle.std.proofs.Common.{◌≡◌, ℕ, zero, suc, ◌+◌, ◌-◌, ◌≤◌, ◌<◌, Bool, true, false, not, ◌||◌, cond, get_or, get_or-drop, List, [], ◌∷◌, ◌++◌, length, take, drop, Option, None, Some, refl, sym, ap, ◌∙◌, subst, arith, append_assoc, length-append, length-drop, nat_eq, append-nil}
+use Rattle.std.specs.Prelude.{chars, slice_index, IsUtf8, IsCharBoundary}
 use Rattle.std.specs.Char.{encode_utf8, len_utf8}
-use Rattle.std.specs.List.{starts_with, prefix_len}
 use Rattle.std.specs.Option.{option_map_or}
 use Rattle.std.specs.Str.{byte}
-use Rattle.std.proofs.lemmas.Bool.{and_parts, and_from}
-use Rattle.std.proofs.lemmas.List.Sums.{prefix_len-le-length}
+use Rattle.std.proofs.lemmas.Bool.{and_parts}
 use Rattle.std.proofs.lemmas.Bool.Decides.{Decides-eqb, nat_tests}
 use Rattle.std.proofs.lemmas.Slice.Eq.{starts_is}
 use Rattle.std.proofs.lemmas.Str.{chars_past_char, length-encode, len_utf8_bounds, IsCharBoundary-after_ascii}
@@ -15,7 +13,7 @@ use Rattle.mention_scan.specs.declared.form.Form.{Form}
 use Rattle.mention_scan.specs.declared.form.Form.TheVariants.{User, SilentUser, Group, SilentGroup}
 use Rattle.mention_scan.specs.declared.span.Span.{Span}
 use Rattle.mention_scan.proofs.Runs.{run_part-some}
-use Rattle.mention_scan.specs.Division.{Part, bare, code, span, single, bytes_of, last_character, opening, closing, is_silent, is_group, run_length, run_part, run_place, may_begin, is_inner, has_form, form_of, span_form, inner_in, first_part, parts, parts_of_line, spans_from}
+use Rattle.mention_scan.specs.Division.{Part, bare, code, span, single, bytes_of, last_character, opening, closing, is_silent, is_group, run_length, run_part, run_place, may_begin, has_form, form_of, span_form, inner_in, first_part, parts, parts_of_line, spans_from}
 
 -- the bytes from `start` on, behind this character, are still to be read, and what was found goes before what they hold
 pub record Reading (quoted : Bool) (line rest : List ℕ) (begin start : ℕ) (before : Option ℕ) (old found : List Span) : Type 0 where
@@ -34,23 +32,23 @@ Reading-end quoted line (b ∷ bs) begin start before old found r e = absurd (om
 
 -- with a byte left to read and enough parts allowed, one part is read, and then the others
 parts-step : (quoted : Bool) (n : ℕ) (before : Option ℕ) (b : ℕ) (bs : List ℕ) (part : Part) → first_part quoted before (b ∷ bs) ≡ part → suc (length bs) ≤ n →
-    (m : ℕ) × (n ≡ suc m) × (parts quoted n before (b ∷ bs) ≡ part ∷ parts quoted m (Some (last_character part)) (drop (length (bytes_of part)) (b ∷ bs)))
+    (m : ℕ) × (n ≡ suc m) × (parts quoted n before (b ∷ bs) ≡ part ∷ parts quoted m (last_character part) (drop (length (bytes_of part)) (b ∷ bs)))
 parts-step quoted zero before b bs part first enough = absurd (omega arith)
 parts-step quoted (suc m) before b bs part first enough =
-    (m, refl, ap (λ p. p ∷ parts quoted m (Some (last_character p)) (drop (length (bytes_of p)) (b ∷ bs))) first)
+    (m, refl, ap (λ p. p ∷ parts quoted m (last_character p) (drop (length (bytes_of p)) (b ∷ bs))) first)
 
 -- one part more of `n` bytes, which holds the spans `more`
 pub Reading-part : (quoted : Bool) (line rest : List ℕ) (begin start n : ℕ) (before : Option ℕ) (old found more : List Span) (part : Part) →
     Reading quoted line rest begin start before old found → first_part quoted before rest ≡ part → length (bytes_of part) ≡ n → 0 < n → n ≤ length rest →
     ((ps : List Part) → spans_from start (part ∷ ps) ≡ more ++ spans_from (start + n) ps) →
-    Reading quoted line (drop n rest) begin (start + n) (Some (last_character part)) old (found ++ more)
+    Reading quoted line (drop n rest) begin (start + n) (last_character part) old (found ++ more)
 Reading-part quoted line [] begin start n before old found more part r first size some fits spans = absurd (omega arith)
 Reading-part quoted line (b ∷ bs) begin start n before old found more part r first size some fits spans =
     let step = parts-step quoted r.fuel before b bs part first r.enough in
     let left : length (drop n (b ∷ bs)) ≡ suc (length bs) - n = length-drop n (b ∷ bs) in
-    let ps = parts quoted step.0 (Some (last_character part)) (drop n (b ∷ bs)) in
+    let ps = parts quoted step.0 (last_character part) (drop n (b ∷ bs)) in
     let at_n : parts quoted r.fuel before (b ∷ bs) ≡ part ∷ ps =
-    step.2 ∙ ap (λ k. part ∷ parts quoted step.0 (Some (last_character part)) (drop k (b ∷ bs))) size in
+    step.2 ∙ ap (λ k. part ∷ parts quoted step.0 (last_character part) (drop k (b ∷ bs))) size in
     record {
       place = omega (arith, r.place);
       fuel = step.0;
@@ -64,7 +62,7 @@ Reading-part quoted line (b ∷ bs) begin start n before old found more part r f
 -- a code part or a bare run holds no span, and ends with a backquote
 pub record IsQuiet (part : Part) : Type 0 where
   pub quiet : (start : ℕ) (ps : List Part) → spans_from start (part ∷ ps) ≡ spans_from (start + length (bytes_of part)) ps
-  pub ends : last_character part ≡ byte "`"
+  pub ends : last_character part ≡ Some (byte "`")
 
 pub run_part-quiet : (n : ℕ) (behind : List ℕ) → IsQuiet (run_part n behind)
 run_part-quiet n behind = by (run_place false n behind)
@@ -85,11 +83,11 @@ Reading-run quoted line rest begin start run n before old found r is some size f
     let first : first_part quoted before rest ≡ part =
     ap (λ t. cond t (run_part (run_length rest) (drop (run_length rest) rest)) other) begins ∙ ap (λ k. run_part k (drop k rest)) (sym is) in
     let long : 0 < n = omega (arith, size, run_part-some run (drop run rest)) in
-    let next : Reading quoted line (drop n rest) begin (start + n) (Some (last_character part)) old (found ++ []) =
+    let next : Reading quoted line (drop n rest) begin (start + n) (last_character part) old (found ++ []) =
     Reading-part quoted line rest begin start n before old found [] part r first (sym size) long fits
     (λ ps. quiet.quiet start ps ∙ ap (λ k. spans_from (start + k) ps) (sym size)) in
     subst (λ f. Reading quoted line (drop n rest) begin (start + n) (Some 96) old f) (append-nil found)
-    (subst (λ c. Reading quoted line (drop n rest) begin (start + n) (Some c) old (found ++ [])) quiet.ends next)
+    (subst (λ c. Reading quoted line (drop n rest) begin (start + n) c old (found ++ [])) quiet.ends next)
 
 -- ---- spans
 
@@ -106,7 +104,7 @@ closing-some SilentUser = omega arith
 closing-some Group = omega arith
 closing-some SilentGroup = omega arith
 
-closing-last : (form : Form) (xs : List ℕ) → get_or (closing form ++ xs) (length (closing form) - 1) 0 ≡ 42
+pub closing-last : (form : Form) (xs : List ℕ) → get_or (closing form ++ xs) (length (closing form) - 1) 0 ≡ 42
 closing-last User xs = refl
 closing-last SilentUser xs = refl
 closing-last Group xs = refl

@@ -1,6 +1,6 @@
 -- The parts of a text make up the text.
-use Rattle.std.proofs.Common.{◌≡◌, ℕ, zero, suc, ◌+◌, ◌≤◌, ◌<◌, Bool, true, false, not, cond, ◌&&◌, List, [], ◌∷◌, ◌++◌, length, take, drop, Option, Some, None, refl, sym, ap, ◌∙◌, subst, arith, append_assoc, length-append, length-take, nat_eq}
-use Rattle.std.specs.Prelude.{IsUtf8, IsCharBoundary, chars, codes, flat_map, slice_index}
+use Rattle.std.proofs.Common.{◌≡◌, ℕ, zero, suc, ◌+◌, ◌≤◌, ◌<◌, Bool, true, false, not, cond, List, [], ◌∷◌, ◌++◌, length, take, drop, Option, Some, None, refl, sym, ap, ◌∙◌, subst, arith, append_assoc, length-append, length-take, nat_eq}
+use Rattle.std.specs.Prelude.{IsUtf8, chars, flat_map, slice_index}
 use Rattle.std.specs.Char.{encode_utf8}
 use Rattle.std.specs.List.{prefix_len, starts_with}
 use Rattle.std.specs.Option.{option_map_or}
@@ -15,18 +15,18 @@ use Rattle.std.proofs.lemmas.Slice.Eq.{starts_is}
 use Rattle.std.proofs.lemmas.Str.{IsUtf8-drop, chars-encodes, length-encode, len_utf8_bounds}
 use Rattle.mention_scan.specs.declared.form.Form.{Form}
 use Rattle.mention_scan.specs.Division.{Part, backquotes, bare, code, span, single, bytes_of, last_character, opening, closing, has_form, inner_in, is_inner, run_length, run_part, run_place, span_form, first_part, parts, parts_of_line}
-use Rattle.mention_scan.proofs.Runs.{RunAt, run_place-at, run_part-some, run_part-boundary}
+use Rattle.mention_scan.proofs.Runs.{run_place-at, run_part-some, run_part-boundary}
 use Rattle.mention_scan.proofs.Reading.{closing-some, form-boundary, form-closes, span_form-has}
 
 -- a part stands first in the bytes, and a text behind it
-record Stands (bs : List ℕ) (part : Part) : Type 0 where
-  after : List ℕ
-  stands : bs ≡ bytes_of part ++ after
-  text : IsUtf8 after
-  some : 0 < length (bytes_of part)
+pub record Stands (bs : List ℕ) (part : Part) : Type 0 where
+  pub after : List ℕ
+  pub stands : bs ≡ bytes_of part ++ after
+  pub text : IsUtf8 after
+  pub some : 0 < length (bytes_of part)
 
 -- what stands first in the bytes stands before the rest of them
-front-stands : (bs front after : List ℕ) → bs ≡ front ++ after → drop (length front) bs ≡ after
+pub front-stands : (bs front after : List ℕ) → bs ≡ front ++ after → drop (length front) bs ≡ after
 front-stands bs front after e = ap (drop (length front)) e ∙ drop-append_seam front after
 
 -- ---- single characters
@@ -45,7 +45,7 @@ single-at bs (c ∷ cs) scalars spells some =
       some = rw first size;
     }
 
-single-stands : (bs : List ℕ) → IsUtf8 bs → 0 < length bs → Stands bs (single (slice_index (chars bs) 0))
+pub single-stands : (bs : List ℕ) → IsUtf8 bs → 0 < length bs → Stands bs (single (slice_index (chars bs) 0))
 single-stands bs u some = single-at bs u.0 u.1.0 u.1.1 some
 
 -- ---- runs
@@ -121,7 +121,7 @@ span-stands quoted form bs u h =
 
 -- ---- lines
 
-first-stands : (quoted : Bool) (before : Option ℕ) (bs : List ℕ) → IsUtf8 bs → 0 < length bs → Stands bs (first_part quoted before bs)
+pub first-stands : (quoted : Bool) (before : Option ℕ) (bs : List ℕ) → IsUtf8 bs → 0 < length bs → Stands bs (first_part quoted before bs)
 first-stands quoted before bs u some =
     by (nat_eq (run_length bs) 0) refl
   where
@@ -138,12 +138,12 @@ first-stands quoted before bs u some =
 
 -- a part that stands first, and then the parts of what is left
 part-whole : (quoted : Bool) (n : ℕ) (bs : List ℕ) (part : Part) → length bs ≤ suc n → Stands bs part →
-    ((rest : List ℕ) → length rest ≤ n → IsUtf8 rest → flat_map bytes_of (parts quoted n (Some (last_character part)) rest) ≡ rest) →
-    bytes_of part ++ flat_map bytes_of (parts quoted n (Some (last_character part)) (drop (length (bytes_of part)) bs)) ≡ bs
+    ((rest : List ℕ) → length rest ≤ n → IsUtf8 rest → flat_map bytes_of (parts quoted n (last_character part) rest) ≡ rest) →
+    bytes_of part ++ flat_map bytes_of (parts quoted n (last_character part) (drop (length (bytes_of part)) bs)) ≡ bs
 part-whole quoted n bs part enough s whole =
     let short : length bs ≡ length (bytes_of part) + length s.after = ap length s.stands ∙ length-append (bytes_of part) s.after in
     let some = s.some in
-    ap (λ xs. bytes_of part ++ flat_map bytes_of (parts quoted n (Some (last_character part)) xs)) (front-stands bs (bytes_of part) s.after s.stands)
+    ap (λ xs. bytes_of part ++ flat_map bytes_of (parts quoted n (last_character part) xs)) (front-stands bs (bytes_of part) s.after s.stands)
     ∙ ap (λ xs. bytes_of part ++ xs) (whole s.after (omega arith) s.text) ∙ sym s.stands
 
 parts-whole : (quoted : Bool) (n : ℕ) (before : Option ℕ) (bs : List ℕ) → length bs ≤ n → IsUtf8 bs → flat_map bytes_of (parts quoted n before bs) ≡ bs
@@ -151,7 +151,7 @@ parts-whole quoted n before [] enough u = refl
 parts-whole quoted zero before (b ∷ bs) enough u = absurd (omega arith)
 parts-whole quoted (suc n) before (b ∷ bs) enough u =
     part-whole quoted n (b ∷ bs) (first_part quoted before (b ∷ bs)) enough (first-stands quoted before (b ∷ bs) u (omega arith))
-    (λ rest. parts-whole quoted n (Some (last_character (first_part quoted before (b ∷ bs)))) rest)
+    (λ rest. parts-whole quoted n (last_character (first_part quoted before (b ∷ bs))) rest)
 
 pub line-whole : (quoted : Bool) (line : List ℕ) → IsUtf8 line → flat_map bytes_of (parts_of_line quoted line) ≡ line
 line-whole quoted line u = parts-whole quoted (length line) None line (omega arith) u

@@ -1,5 +1,5 @@
 -- Each span of a text lies within it.
-use Rattle.std.proofs.Common.{◌≡◌, ℕ, zero, suc, ◌+◌, ◌-◌, ◌≤◌, ◌<◌, ◌&&◌, ◌||◌, not, refl, Bool, true, false, cond, List, [], ◌∷◌, ◌++◌, length, take, drop, Option, Some, None, subst, sym, ap, ◌∙◌, arith, length-append, length-drop, length-take, nat_eq, ⊎_elim}
+use Rattle.std.proofs.Common.{◌≡◌, ℕ, zero, suc, ◌+◌, ◌-◌, ◌≤◌, ◌<◌, ◌||◌, not, refl, Bool, true, false, cond, List, [], ◌∷◌, ◌++◌, length, take, drop, Option, Some, None, subst, sym, ◌∙◌, arith, length-append, length-drop, length-take, nat_eq, ⊎_elim}
 use Rattle.std.specs.Prelude.{◌==◌, All, IsUtf8, chars, slice_index}
 use Rattle.std.specs.List.{position_or_len, starts_with}
 use Rattle.std.specs.Option.{option_map_or}
@@ -44,23 +44,23 @@ span-within text bs start quoted form room h =
 
 -- the first part's span lies within the text where those of the others do
 first-within : (text : List ℕ) (quoted : Bool) (n start : ℕ) (before : Option ℕ) (rest : List ℕ) → start + length rest ≤ length text →
-    ((p : Part) → All (LiesWithin text) (spans_from (start + length (bytes_of p)) (parts quoted n (Some (last_character p)) (drop (length (bytes_of p)) rest)))) →
-    All (LiesWithin text) (spans_from start (first_part quoted before rest ∷ parts quoted n (Some (last_character (first_part quoted before rest))) (drop (length (bytes_of (first_part quoted before rest))) rest)))
+    ((p : Part) → All (LiesWithin text) (spans_from (start + length (bytes_of p)) (parts quoted n (last_character p) (drop (length (bytes_of p)) rest)))) →
+    All (LiesWithin text) (spans_from start (first_part quoted before rest ∷ parts quoted n (last_character (first_part quoted before rest)) (drop (length (bytes_of (first_part quoted before rest))) rest)))
 first-within text quoted n start before rest room later = by (nat_eq (run_length rest) 0)
   where
-    run : (m : ℕ) (xs : List ℕ) → All (LiesWithin text) (spans_from start (run_part m xs ∷ parts quoted n (Some (last_character (run_part m xs))) (drop (length (bytes_of (run_part m xs))) rest)))
+    run : (m : ℕ) (xs : List ℕ) → All (LiesWithin text) (spans_from start (run_part m xs ∷ parts quoted n (last_character (run_part m xs)) (drop (length (bytes_of (run_part m xs))) rest)))
     run m xs =
-        subst (All (LiesWithin text)) (sym ((run_part-quiet m xs).quiet start (parts quoted n (Some (last_character (run_part m xs))) (drop (length (bytes_of (run_part m xs))) rest)))) (later (run_part m xs))
+        subst (All (LiesWithin text)) (sym ((run_part-quiet m xs).quiet start (parts quoted n (last_character (run_part m xs)) (drop (length (bytes_of (run_part m xs))) rest)))) (later (run_part m xs))
 
     other : (o : Option Form) → span_form before rest ≡ o →
         (let p = option_map_or (λ form. span quoted form (inner_in form rest)) o (single (slice_index (chars rest) 0)) in
-        All (LiesWithin text) (spans_from start (p ∷ parts quoted n (Some (last_character p)) (drop (length (bytes_of p)) rest))))
+        All (LiesWithin text) (spans_from start (p ∷ parts quoted n (last_character p) (drop (length (bytes_of p)) rest))))
     other None is = later (single (slice_index (chars rest) 0))
     other (Some form) is = All-cons (LiesWithin text) _ _ (span-within text rest start quoted form room (span_form-has before rest form is)) (later (span quoted form (inner_in form rest)))
 
     by : (t : Bool) →
         (let p = cond (not t) (run_part (run_length rest) (drop (run_length rest) rest)) (option_map_or (λ form. span quoted form (inner_in form rest)) (span_form before rest) (single (slice_index (chars rest) 0))) in
-        All (LiesWithin text) (spans_from start (p ∷ parts quoted n (Some (last_character p)) (drop (length (bytes_of p)) rest))))
+        All (LiesWithin text) (spans_from start (p ∷ parts quoted n (last_character p) (drop (length (bytes_of p)) rest))))
     by true = other (span_form before rest) refl
     by false = run (run_length rest) (drop (run_length rest) rest)
 
@@ -72,7 +72,7 @@ parts-within text quoted zero start before (b ∷ bs) room = All-nil (LiesWithin
 parts-within text quoted (suc n) start before (b ∷ bs) room =
     let fits : start + length (b ∷ bs) ≤ length text = room (omega arith) in
     first-within text quoted n start before (b ∷ bs) fits
-    (λ p. parts-within text quoted n (start + length (bytes_of p)) (Some (last_character p)) (drop (length (bytes_of p)) (b ∷ bs)) (room-behind text (b ∷ bs) start (length (bytes_of p)) fits))
+    (λ p. parts-within text quoted n (start + length (bytes_of p)) (last_character p) (drop (length (bytes_of p)) (b ∷ bs)) (room-behind text (b ∷ bs) start (length (bytes_of p)) fits))
 
 read-within : (text : List ℕ) (m : Manner) (start : ℕ) (line : List ℕ) → start + length line ≤ length text → All (LiesWithin text) (spans_from start (parts_read m line))
 read-within text Fenced start line room = All-nil (LiesWithin text)

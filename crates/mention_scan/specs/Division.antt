@@ -1,5 +1,5 @@
 -- How a text divides into parts, and the spans that it has. A text is the list of its UTF-8 bytes.
-use Rattle.std.specs.Prelude.{◌≡◌, ℕ, zero, suc, ◌+◌, ◌-◌, ◌<◌, ◌≤◌, Bool, true, false, ◌&&◌, ◌||◌, ◌==◌, not, List, [], ◌∷◌, ◌++◌, length, take, drop, replicate, take_while, Option, Some, None, codes, chars, slice_index, nat_eq, nat_le, if◌then◌else◌}
+use Rattle.std.specs.Prelude.{◌≡◌, ◌↔◌, ℕ, zero, suc, ◌+◌, ◌-◌, ◌<◌, ◌≤◌, Bool, true, false, ◌&&◌, ◌||◌, ◌==◌, not, List, [], ◌∷◌, ◌++◌, length, take, drop, replicate, take_while, Option, Some, None, Contains, codes, chars, slice_index, nat_eq, nat_le, if◌then◌else◌}
 use Rattle.std.specs.Char.{is_whitespace, encode_utf8}
 use Rattle.std.specs.List.{prefix_len, suffix_len, slice_split, starts_with}
 use Rattle.std.specs.Option.{option_map, option_map_or}
@@ -66,13 +66,13 @@ bytes_of (bare n) = backquotes n
 bytes_of (span quoted form inner) = opening form ++ (inner ++ closing form)
 bytes_of (single c) = encode_utf8 c
 
--- the last character of a part that stands in a line that may hold spans
-abbrev pub last_character : Part → ℕ
-last_character (fence_line line) = line_feed
-last_character (code n inside) = byte "`"
-last_character (bare n) = byte "`"
-last_character (span quoted form inner) = byte "*"
-last_character (single c) = c
+-- the last character of a part of a line that may hold spans. A line of a fence is no such part, and none of its line follows it
+abbrev pub last_character : Part → Option ℕ
+last_character (fence_line line) = None
+last_character (code n inside) = Some (byte "`")
+last_character (bare n) = Some (byte "`")
+last_character (span quoted form inner) = Some (byte "*")
+last_character (single c) = Some c
 
 -- ---- runs of backquotes
 
@@ -103,7 +103,8 @@ may_precede c =
     is_whitespace c || c == byte "'" || c == byte "\"" || c == byte "(" || c == byte "{" || c == byte "[" || c == byte "/"
     || c == byte "<"
 
--- a span may begin where its line does, since there the text begins or a line feed stands before, or behind a character that lets it
+-- a span may begin behind a character that lets it. `None` is where its line begins: the text begins there too, or a line feed
+-- stands before, which is whitespace
 abbrev pub may_begin : Option ℕ → Bool
 may_begin None = true
 may_begin (Some c) = may_precede c
@@ -153,7 +154,7 @@ parts quoted n before [] = []
 parts quoted zero before (b ∷ bs) = []
 parts quoted (suc n) before (b ∷ bs) =
     let part = first_part quoted before (b ∷ bs) in
-    part ∷ parts quoted n (Some (last_character part)) (drop (length (bytes_of part)) (b ∷ bs))
+    part ∷ parts quoted n (last_character part) (drop (length (bytes_of part)) (b ∷ bs))
 
 -- the parts of a line, from left to right: it has no more parts than bytes
 abbrev pub parts_of_line : Bool → List ℕ → List Part
@@ -164,7 +165,7 @@ abbrev pub ArePartsOf : Bool → Option ℕ → List ℕ → List Part → Type 
 ArePartsOf quoted before bs [] = bs ≡ []
 ArePartsOf quoted before bs (part ∷ parts) =
     (0 < length bs) × (part ≡ first_part quoted before bs)
-    × ArePartsOf quoted (Some (last_character part)) (drop (length (bytes_of part)) bs) parts
+    × ArePartsOf quoted (last_character part) (drop (length (bytes_of part)) bs) parts
 
 -- ---- fences
 
@@ -234,6 +235,20 @@ parts_of_lines fence (line ∷ []) = parts_read (manner_of fence line) line
 parts_of_lines fence (line ∷ next ∷ lines) =
     parts_read (manner_of fence line) line ++ single line_feed ∷ parts_of_lines (fence_behind fence line) (next ∷ lines)
 
+-- these are the parts of a line that is read in this manner
+abbrev pub ArePartsRead : Manner → List ℕ → List Part → Type 0
+ArePartsRead Fenced line parts = parts ≡ fence_line line ∷ []
+ArePartsRead Quoted line parts = ArePartsOf true None line parts
+ArePartsRead Plain line parts = ArePartsOf false None line parts
+
+-- these are the parts of lines of which the first is read where this fence is open, or none; a line feed stands between two of them
+abbrev pub ArePartsOfLines : Option Fence → List (List ℕ) → List Part → Type 0
+ArePartsOfLines fence [] parts = parts ≡ []
+ArePartsOfLines fence (line ∷ []) parts = ArePartsRead (manner_of fence line) line parts
+ArePartsOfLines fence (line ∷ next ∷ lines) parts =
+    (here : List Part) × (behind : List Part) × ArePartsRead (manner_of fence line) line here
+    × ArePartsOfLines (fence_behind fence line) (next ∷ lines) behind × (parts ≡ here ++ single line_feed ∷ behind)
+
 -- ---- texts
 
 -- the lines of a text: it is split at its line feeds
@@ -243,6 +258,19 @@ lines_of text = slice_split (λ b. b == line_feed) text
 -- the parts of a text, from left to right, with no fence open where it begins
 abbrev pub division : List ℕ → List Part
 division text = parts_of_lines None (lines_of text)
+
+-- these parts, from left to right, divide the text: each is the first form that fits at its place
+abbrev pub IsDivision : List ℕ → List Part → Type 0
+IsDivision text parts = ArePartsOfLines None (lines_of text) parts
+
+-- these parts divide the text exactly where they are its division: there is one, and no other
+abbrev pub HasOneDivision : List ℕ → Type 0
+HasOneDivision text = (parts : List Part) → IsDivision text parts ↔ (parts ≡ division text)
+
+-- of two runs of backquotes alone that are equally long, a line feed stands between
+abbrev pub BareRunsDiffer : List Part → Type 0
+BareRunsDiffer parts =
+    (front between behind : List Part) (n : ℕ) → parts ≡ front ++ (bare n ∷ (between ++ (bare n ∷ behind))) → Contains between (single line_feed)
 
 -- the spans among parts of which the first begins at this byte; a span of a quoted line is silent
 abbrev pub spans_from : ℕ → List Part → List Span

@@ -1,7 +1,8 @@
 -- What a text mentions.
-use Rattle.std.specs.Prelude.{ℕ, ◌+◌, ◌-◌, ◌*◌, Bool, false, ◌&&◌, ◌||◌, ◌==◌, not, List, [], map, filter, fold, count_by, length, Option, Some, None, codes, nat_le, slice_range, if◌then◌else◌}
+use Rattle.std.specs.Prelude.{ℕ, ◌+◌, ◌-◌, ◌*◌, Bool, false, ◌&&◌, ◌||◌, ◌==◌, not, List, map, filter, fold, count_by, length, Option, Some, None, codes, nat_le, slice_range, if◌then◌else◌}
 use Rattle.std.specs.Char.{is_ascii_digit}
 use Rattle.std.specs.List.{list_all, list_any, before_last, after_last}
+use Rattle.std.specs.List.Sorted.{IsStrictlyIncreasing}
 use Rattle.std.specs.Option.{option_map_or}
 use Rattle.std.specs.Str.{byte, bytes_eq, str_eq_ignore_ascii_case}
 use Rattle.chat_model.specs.declared.mentions.Mentions.{Mentions}
@@ -123,3 +124,9 @@ mentions text users groups =
       channel_wildcard = has_inner is_channel_wildcard text;
       topic_wildcard = has_inner is_topic_wildcard text;
     }
+
+-- where the numbers of the users ascend, those of the ones that are mentioned do, so each stands once; and the same of groups
+abbrev pub KeepsAscending : List UserName → List GroupName → Mentions → Type 0
+KeepsAscending users groups mentioned =
+    (IsStrictlyIncreasing (map (λ user. user.id.0) users) → IsStrictlyIncreasing (map (λ id. id.0) mentioned.users))
+    × (IsStrictlyIncreasing (map (λ group. group.id.0) groups) → IsStrictlyIncreasing (map (λ id. id.0) mentioned.groups))

@@ -2,7 +2,7 @@
 ghost use Rattle.std.specs.Prelude.{◌≡◌, ◌&&◌, All, map, filter, IfOk};
 ghost use Rattle.std.specs.List.{list_any};
 ghost use Rattle.mention_scan.specs.Division.{LiesWithin, spans_of};
-ghost use Rattle.mention_scan.specs.Mentions.{inner_of, is_channel_wildcard, is_group_named, is_group_span, is_topic_wildcard, is_user_span, may_name, mentions, speaks_of};
+ghost use Rattle.mention_scan.specs.Mentions.{KeepsAscending, inner_of, is_channel_wildcard, is_group_named, is_group_span, is_topic_wildcard, is_user_span, may_name, mentions, speaks_of};
 
 use crate::Span;
 use crate::inner::{is_channel_wildcard, is_group_named, is_topic_wildcard, may_name, speaks_of};
@@ -18,7 +18,8 @@ pub fn resolve(
     groups: &[GroupName],
 ) -> Result<Mentions, OutOfMemory>
     requires spans_of_the_text { spans.now ≡ spans_of text.now }
-    ensures { IfOk result (λ m. m ≡ mentions text.now users.now groups.now) }
+    ensures mentions { IfOk result (λ m. m ≡ mentions text.now users.now groups.now) }
+    ensures ascending { IfOk result (λ m. KeepsAscending users.now groups.now m) }
 {
     let naming = naming_spans(alloc, text, spans, users)?;
     let users = named_users(alloc, text, naming.as_slice(), users)?;

@@ -15,8 +15,8 @@ pub fn run_of(character: u8, bytes: &[u8]) -> usize
     bytes.len()
 }
 
-/// How many bytes stand before the nearest run of exactly `n` backquotes. A search that fails takes the time of the
-/// line, and it fails once at most for each `n`, since no run of that length is left.
+/// How many bytes stand before the nearest run of exactly `n` backquotes. A search that fails goes to the end of the line,
+/// and none for that `n` follows it in the line, since no run of that length is left.
 pub fn run_place(n: usize, bytes: &[u8]) -> Option<usize>
     requires some { 0 < n }
     ensures { result ≡ run_place false n bytes.now }

@@ -1,7 +1,7 @@
 //! The spans of a text.
 ghost use Rattle.std.specs.Prelude.{◌≡◌, ◌==◌, ◌+◌, ◌^◌, ◌<◌, ◌≤◌, ◌++◌, length, All, IfOk, OnOk, flat_map};
 ghost use Rattle.std.specs.List.{position_or_len};
-ghost use Rattle.mention_scan.specs.Division.{bytes_of, division, manner_of, parts_read, spans_from, spans_of, LiesWithin};
+ghost use Rattle.mention_scan.specs.Division.{BareRunsDiffer, HasOneDivision, bytes_of, division, manner_of, parts_read, spans_from, spans_of, LiesWithin};
 
 use crate::Span;
 use crate::fence::Fence;
@@ -10,12 +10,23 @@ use chat_model::{List, OutOfMemory};
 use std::alloc::Global;
 
 /// The spans of a text, in order, by one reading from left to right, line by line.
+///
+/// Two things look ahead. An opening looks through its Inner up to the next star, and each later opening ends with that
+/// star or one behind it. A run of backquotes looks for the run that ends it: what it finds is passed over with it, and
+/// where it finds none, that took the time of the line. But then it is a bare run, and no other bare run of its line is as
+/// long. So the time grows no faster than the text's length times the number of different lengths of its runs.
 pub fn scan(alloc: Global, text: &str) -> Result<List<Span>, OutOfMemory>
     ensures spans { IfOk result (λ s. s ≡ spans_of text.now) }
     ensures within { IfOk result (λ s. All (LiesWithin text.now) s) }
 
     // The division of a text leaves nothing of it out.
     ensures whole { flat_map bytes_of (division text.now) ≡ text.now }
+
+    // Parts that divide the text are its division, and no others do.
+    ensures one { HasOneDivision text.now }
+
+    // In a line the search for the run that ends a run fails once at most for each length of a run.
+    ensures bare { BareRunsDiffer (division text.now) }
 {
     let mut found = List::new(alloc);
     let mut rest = text;

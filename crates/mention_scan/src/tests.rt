@@ -54,7 +54,7 @@ const ROWS: [Row; 17] = [
 ];
 
 /// Fences: how they open, what closes them, and what stands in them.
-const FENCES: [Row; 13] = [
+const FENCES: [Row; 20] = [
     // closed by a longer run, behind which spaces may stand
     (
         "```\n@**Ada**\n`````  \n@**Ada**",
@@ -70,6 +70,7 @@ const FENCES: [Row; 13] = [
     ("```\n``` a\n@**Ada**", &[], &[], &[], NONE),
     // closed by the end of the text
     ("```", &[], &[], &[], NONE),
+    ("```\n@**Ada**\n\n@*ops*", &[], &[], &[], NONE),
     // two are no fence
     ("~~\n@**Ada**", &[(3, 11, false, false)], &[1], &[], NONE),
     // the lines that open and close hold no span
@@ -101,12 +102,40 @@ const FENCES: [Row; 13] = [
         &[],
         NONE,
     ),
-    // a line that begins with a space opens no fence
+    // a line that would open a fence doesn't close one
+    (
+        "~~~quote\n~~~quote\n@**Ada**",
+        &[(18, 26, true, false)],
+        &[],
+        &[],
+        NONE,
+    ),
+    // `>` in a fence changes nothing
+    ("```\n> @**Ada**", &[], &[], &[], NONE),
+    (
+        "~~~quote\n> @**Ada**",
+        &[(11, 19, true, false)],
+        &[],
+        &[],
+        NONE,
+    ),
+    // an empty line of a fence closes nothing
+    (
+        "~~~quote\n\n@**Ada**",
+        &[(10, 18, true, false)],
+        &[],
+        &[],
+        NONE,
+    ),
+    // a line that begins with a space or `>` opens no fence
     (" ```\n@**Ada**", &[(5, 13, false, false)], &[1], &[], NONE),
+    ("> ```\n@**Ada**", &[(6, 14, false, false)], &[1], &[], NONE),
+    // a word may have a backquote
+    ("```a`b\n@**Ada**", &[], &[], &[], NONE),
 ];
 
 /// Code within a line, and what may stand before a span.
-const LINES: [Row; 17] = [
+const LINES: [Row; 20] = [
     // a later run of exactly as many backquotes
     ("`` @**Ada** ` ``@*ops*", &[], &[], &[], NONE),
     (
@@ -158,6 +187,8 @@ const LINES: [Row; 17] = [
         &[1],
         NONE,
     ),
+    // whitespace that isn't ASCII
+    ("\u{a0}@**Ada**", &[(2, 10, false, false)], &[1], &[], NONE),
     (
         "\u{3000}@**Ada**",
         &[(3, 11, false, false)],
@@ -165,7 +196,10 @@ const LINES: [Row; 17] = [
         &[],
         NONE,
     ),
+    // none of those, nor a backquote that ends code or stands alone
     ("é@**Ada**", &[], &[], &[], NONE),
+    ("`@**Ada**", &[], &[], &[], NONE),
+    ("`a`@**Ada**", &[], &[], &[], NONE),
     (">@**Ada**", &[], &[], &[], NONE),
     // forms that don't fit
     ("@***Ada**", &[], &[], &[], NONE),
@@ -178,7 +212,7 @@ const LINES: [Row; 17] = [
 ];
 
 /// Whom an Inner mentions.
-const INNERS: [Row; 10] = [
+const INNERS: [Row; 13] = [
     ("@**|**", &[(0, 6, false, false)], &[], &[], NONE),
     ("@**Ada|**", &[(0, 9, false, false)], &[], &[], NONE),
     ("@**aDA|01**", &[(0, 11, false, false)], &[1], &[], NONE),
@@ -197,6 +231,9 @@ const INNERS: [Row; 10] = [
         NONE,
     ),
     ("@**|9**", &[(0, 7, false, false)], &[], &[], NONE),
+    ("@**all|1**", &[(0, 10, false, false)], &[], &[], NONE),
+    ("@**`** `", &[(0, 6, false, false)], &[], &[], NONE),
+    ("@**@**", &[(0, 6, false, false)], &[], &[], NONE),
     ("@**Ada|x**", &[(0, 10, false, false)], &[], &[], NONE),
     ("@**x|Ada|1**", &[(0, 12, false, false)], &[], &[], NONE),
     (
@@ -218,6 +255,11 @@ const INNERS: [Row; 10] = [
         NONE,
     ),
 ];
+
+/// How many characters the long text has, and how many backquotes its longest run.
+const LONG_TEXT: usize = 10_000;
+
+const LONGEST_RUN: usize = 139;
 
 #[test]
 fn worked_texts(rt: HostRuntime) -> Result<(), Fail> {
@@ -261,6 +303,118 @@ fn a_user_named_like_a_wildcard(rt: HostRuntime) -> Result<(), Fail> {
             "the channel in {text:?}"
         );
     }
+    Ok(())
+}
+
+/// Names are compared without case in ASCII alone.
+#[test]
+fn a_user_with_a_letter_beyond_ascii(rt: HostRuntime) -> Result<(), Fail> {
+    let alloc = rt.alloc();
+    let users = [UserName {
+        id: UserId(7),
+        name: Text::from_str(alloc, "é")?,
+    }];
+    for (text, named) in [("@**é**", true), ("@**É**", false)] {
+        let spans = scan(alloc, text)?;
+        assert_eq!(rt;
+            spans.as_slice().first().copied(),
+            Some(Span {
+                start: 0,
+                end: 7,
+                silent: false,
+                group: false,
+            }),
+            "the span of {text:?}"
+        );
+        assert_eq!(rt; spans.as_slice().len(), 1, "the spans of {text:?}");
+        let mentions = resolve(alloc, text, spans.as_slice(), &users, &[])?;
+        assert_eq!(rt;
+            mentions.users.as_slice().len(),
+            usize::from(named),
+            "the users in {text:?}"
+        );
+    }
+    Ok(())
+}
+
+/// The last `|` ends the name, which may have one itself.
+#[test]
+fn a_user_with_a_bar_in_the_name(rt: HostRuntime) -> Result<(), Fail> {
+    let alloc = rt.alloc();
+    let users = [UserName {
+        id: UserId(7),
+        name: Text::from_str(alloc, "A|da")?,
+    }];
+    for (text, named) in [
+        ("@**a|DA|7**", true),
+        ("@**A|7**", false),
+        ("@**A|da**", false),
+    ] {
+        let spans = scan(alloc, text)?;
+        let mentions = resolve(alloc, text, spans.as_slice(), &users, &[])?;
+        assert_eq!(rt;
+            mentions.users.as_slice().len(),
+            usize::from(named),
+            "the users in {text:?}"
+        );
+    }
+    Ok(())
+}
+
+/// Runs of 1, 2, 3, .. backquotes, each with an `@` behind it, and then `@` alone: 10,000 characters.
+fn growing_runs(alloc: Global) -> Result<String, Fail> {
+    let mut text = String::new(alloc);
+    for length in 1..=LONGEST_RUN {
+        for _ in 0..length {
+            text.push('`')?;
+        }
+        text.push('@')?;
+    }
+    for _ in text.len()..LONG_TEXT {
+        text.push('@')?;
+    }
+    Ok(text)
+}
+
+/// No two runs are as long, so none is code, and no form follows an `@` of them.
+#[test]
+fn runs_that_grow(rt: HostRuntime) -> Result<(), Fail> {
+    let alloc = rt.alloc();
+    let mut text = growing_runs(alloc)?;
+    assert_eq!(rt; text.len(), LONG_TEXT, "the bytes of the text");
+    assert!(rt;
+        scan(alloc, text.as_str())?.as_slice().is_empty(),
+        "the runs alone"
+    );
+    text.push_str(" @**Ada**")?;
+    let behind = scan(alloc, text.as_str())?;
+    assert_eq!(rt; behind.as_slice().len(), 1, "one span behind the runs");
+    assert_eq!(rt;
+        behind.as_slice().first().copied(),
+        Some(Span {
+            start: LONG_TEXT + 1,
+            end: LONG_TEXT + 9,
+            silent: false,
+            group: false,
+        }),
+        "the span behind the runs"
+    );
+    Ok(())
+}
+
+/// The first run of the first half, of one backquote, ends at the first of the second half, so what stands between is code.
+#[test]
+fn runs_that_grow_twice(rt: HostRuntime) -> Result<(), Fail> {
+    let alloc = rt.alloc();
+    let runs = growing_runs(alloc)?;
+    let mut text = String::new(alloc);
+    text.push_str(runs.as_str())?;
+    text.push_str(" @**Ada** ")?;
+    text.push_str(runs.as_str())?;
+    assert!(rt;
+        scan(alloc, text.as_str())?.as_slice().is_empty(),
+        "the runs twice"
+    );
     Ok(())
 }
 

@@ -1,6 +1,6 @@
 -- Each definition at a journal with one more event.
 use Rattle.std.proofs.Common.{◌≡◌, ℕ, ◌+◌, Bool, false, List, [], ◌∷◌, ◌++◌, cond, length, refl, sym, ap, ◌∙◌, zero-add}
-use Rattle.std.specs.Prelude.{Option, Some, None, unwrap_or, option_to_list, count_by, find, nat_lt, ◌&&◌}
+use Rattle.std.specs.Prelude.{Option, Some, None, unwrap_or, option_to_list, count_by, find, fold, nat_lt, ◌&&◌}
 use Rattle.std.specs.List.{filter_map, flat_map, cons_option}
 use Rattle.std.specs.Option.{option_or}
 use Rattle.std.proofs.lemmas.List.{append_assoc, append-nil}
@@ -9,11 +9,11 @@ use Rattle.std.proofs.lemmas.List.Folds.{find-append}
 use Rattle.std.proofs.lemmas.List.Elements.{filter_map-append}
 use Rattle.std.proofs.lemmas.Grind.{flat_map-append}
 use Rattle.chat_model.specs.declared.event.Stamped.{Stamped}
-use Rattle.chat_model.specs.declared.event.Event.{Event}
 use Rattle.chat_model.specs.declared.ids.UserId.{UserId}
 use Rattle.chat_model.specs.declared.ids.ChannelId.{ChannelId}
+use Rattle.chat_model.specs.declared.ids.GroupId.{GroupId}
 use Rattle.notice_ledger.specs.Journal.{Occurrence, occurrence, occurrences, occurrences_after, last_given, last_stamp, first_behind}
-use Rattle.notice_ledger.specs.Values.{person_of, people, channel_of, channels, message_of, messages, makes_deal, deal_count, subscription_change, subscribed}
+use Rattle.notice_ledger.specs.Values.{person_of, people, channel_of, channels, message_of, messages, makes_deal, deal_count, group_of, groups, membership_change, is_member, subscription_change, subscribed}
 use Rattle.notice_ledger.specs.Owed.{owed_by, notices}
 use Rattle.notice_ledger.specs.Outbox.{entries_by, outbox}
 
@@ -34,9 +34,9 @@ pub first_behind-nil : (place : ℕ) (test : Occurrence → Bool) → first_behi
 unfolding occurrences
 first_behind-nil place test = refl
 
-pub last_given-append : {A : Type 0} (change : Event → Option A) (start : A) (j : List Stamped) (s : Stamped) → last_given change start (j ++ s ∷ []) ≡ unwrap_or (change s.event) (last_given change start j)
-last_given-append change start [] s = refl
-last_given-append change start (t ∷ ts) s = last_given-append change (unwrap_or (change t.event) start) ts s
+pub last_given-append : {A : Type 0} (change : Occurrence → Option A) (start : A) (j : List Stamped) (s : Stamped) → last_given change start (j ++ s ∷ []) ≡ unwrap_or (change (occurrence j s)) (last_given change start j)
+last_given-append change start j s =
+    ap (fold (λ before o. unwrap_or (change o) before) start) (occurrences-append j s) ∙ fold-append (λ before o. unwrap_or (change o) before) start (occurrences j) (occurrence j s ∷ [])
 
 pub last_stamp-append : (j : List Stamped) (s : Stamped) → last_stamp (j ++ s ∷ []) ≡ s.at
 last_stamp-append j s = fold-append (λ before t. t.at) 0 j (s ∷ [])
@@ -61,8 +61,16 @@ unfolding deal_count
 deal_count-nil = refl
 
 pub subscribed-nil : (u : UserId) (c : ChannelId) → subscribed [] u c ≡ false
-unfolding subscribed
+unfolding subscribed occurrences
 subscribed-nil u c = refl
+
+pub groups-nil : groups [] ≡ []
+unfolding groups
+groups-nil = refl
+
+pub is_member-nil : (g : GroupId) (u : UserId) → is_member [] g u ≡ false
+unfolding is_member occurrences
+is_member-nil g u = refl
 
 pub outbox-nil : outbox [] ≡ []
 unfolding outbox occurrences
@@ -76,6 +84,10 @@ pub channels-append : (j : List Stamped) (s : Stamped) → channels (j ++ s ∷ 
 unfolding channels
 channels-append j s = filter_map-append (λ t. channel_of t.event) j (s ∷ []) ∙ ap (λ ps. filter_map (λ t. channel_of t.event) j ++ ps) (single_filter_map (λ t. channel_of t.event) s)
 
+pub groups-append : (j : List Stamped) (s : Stamped) → groups (j ++ s ∷ []) ≡ groups j ++ option_to_list (group_of s.event)
+unfolding groups
+groups-append j s = filter_map-append (λ t. group_of t.event) j (s ∷ []) ∙ ap (λ ps. filter_map (λ t. group_of t.event) j ++ ps) (single_filter_map (λ t. group_of t.event) s)
+
 pub messages-append : (j : List Stamped) (s : Stamped) → messages (j ++ s ∷ []) ≡ messages j ++ option_to_list (message_of (occurrence j s))
 unfolding messages
 messages-append j s =
@@ -87,7 +99,11 @@ deal_count-append j s = sum_by-append (λ t. cond (makes_deal t.event) 1 0) j (s
 
 pub subscribed-append : (j : List Stamped) (s : Stamped) (u : UserId) (c : ChannelId) → subscribed (j ++ s ∷ []) u c ≡ unwrap_or (subscription_change u c s.event) (subscribed j u c)
 unfolding subscribed
-subscribed-append j s u c = last_given-append (subscription_change u c) false j s
+subscribed-append j s u c = last_given-append (λ o. subscription_change u c o.event) false j s
+
+pub is_member-append : (j : List Stamped) (s : Stamped) (g : GroupId) (u : UserId) → is_member (j ++ s ∷ []) g u ≡ unwrap_or (membership_change g u j s.event) (is_member j g u)
+unfolding is_member
+is_member-append j s g u = last_given-append (λ o. membership_change g u o.past o.event) false j s
 
 pub notices-nil : notices [] ≡ []
 unfolding notices occurrences

@@ -9,3 +9,4 @@ pub mod LawfulLemmas
 pub mod Sums
 pub mod Apart
 pub mod Places
+pub mod InOrder

@@ -6,7 +6,7 @@ use Rattle.std.specs.List.{AllByRecursion, filter_map}
 use Rattle.chat_model.specs.declared.event.Stamped.{Stamped}
 use Rattle.chat_model.specs.declared.event.Event.{Event}
 use Rattle.chat_model.specs.declared.event.Event.TheVariants.{Restart, Asked, MailTurn}
-use Rattle.chat_model.specs.declared.request.Request.TheVariants.{AddUser, AddChannel, Subscribe, Send}
+use Rattle.chat_model.specs.declared.request.Request.TheVariants.{AddUser, AddGroup, Member, AddChannel, Subscribe, Send}
 use Rattle.chat_model.specs.declared.ids.UserId.{UserId}
 use Rattle.chat_model.specs.declared.trigger.Way.{Way}
 use Rattle.chat_model.specs.declared.trigger.Way.TheVariants.{Mail, Push}
@@ -85,6 +85,8 @@ waiting-messages j = AllByRecursion-filter (IsOfMessage j) (λ n. is_none (turn 
 one_each : (past : List Stamped) (e : Event) → cond (makes_deal e) 1 0 ≡ length (option_to_list (sent_by past e))
 one_each past Restart = refl
 one_each past (Asked (AddUser name bot)) = refl
+one_each past (Asked (AddGroup name members)) = refl
+one_each past (Asked (Member group user on)) = refl
 one_each past (Asked (AddChannel name)) = refl
 one_each past (Asked (Subscribe user channel on)) = refl
 one_each past (Asked (Send sender channel topic text)) = refl

@@ -29,9 +29,8 @@ abbrev pub first_behind : ℕ → (Occurrence → Bool) → List Stamped → Opt
 first_behind place test j = find (λ o. nat_lt place o.place && test o) (occurrences j)
 
 -- the value that the last of the changes in a journal gives, or the one that stood at the start
-abbrev pub last_given : {A : Type 0} → (Event → Option A) → A → List Stamped → A
-last_given change start [] = start
-last_given change start (s ∷ ss) = last_given change (unwrap_or (change s.event) start) ss
+abbrev pub last_given : {A : Type 0} → (Occurrence → Option A) → A → List Stamped → A
+last_given change start j = fold (λ before o. unwrap_or (change o) before) start (occurrences j)
 
 -- the last stamp, 0 where there is none
 abbrev pub last_stamp : List Stamped → ℕ

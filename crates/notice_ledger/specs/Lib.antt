@@ -6,5 +6,7 @@ pub mod Due
 pub mod Outbox
 pub mod Audit
 pub mod Rows
+pub mod Refusals
+pub mod InOrder
 pub mod Lawful
 pub mod Conserved

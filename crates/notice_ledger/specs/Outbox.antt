@@ -1,5 +1,5 @@
 -- The outbox: the entries that the turns make, numbered from 1 in their order.
-use Rattle.std.specs.Prelude.{ℕ, nat_le, List, [], ◌∷◌, None, map, if◌then◌else◌}
+use Rattle.std.specs.Prelude.{ℕ, nat_le, List, [], ◌∷◌, option_map, map, if◌then◌else◌}
 use Rattle.std.specs.List.{flat_map}
 use Rattle.chat_model.specs.declared.event.Stamped.{Stamped}
 use Rattle.chat_model.specs.declared.event.Event.{Event}
@@ -9,12 +9,19 @@ use Rattle.chat_model.specs.declared.entry.Entry.{Entry}
 use Rattle.chat_model.specs.declared.entry.Entry.TheVariants.{Mail}
 use Rattle.chat_model.specs.declared.entry.Conversation.{Conversation}
 use Rattle.chat_model.specs.declared.entry.Conversation.TheVariants.{Channel}
+use Rattle.chat_model.specs.declared.ids.GroupId.{GroupId}
 use Rattle.chat_model.specs.declared.ids.UserId.{UserId}
+use Rattle.chat_model.specs.declared.mentions.GroupName.{GroupName}
 use Rattle.chat_model.specs.declared.trigger.Way.TheVariants as ways
 use Rattle.notice_ledger.specs.Journal.{occurrences}
-use Rattle.notice_ledger.specs.Values.{user_name, channel_name}
+use Rattle.notice_ledger.specs.Values.{user_name, group_name, channel_name}
+use Rattle.notice_ledger.specs.Triggers.{came_by}
 use Rattle.notice_ledger.specs.Owed.{Notice, switch_on}
 use Rattle.notice_ledger.specs.Due.{batch_rows}
+
+-- a group with its name
+abbrev pub named_group : List Stamped → GroupId → GroupName
+named_group j g = record { id = g; name = group_name j g }
 
 -- what an entry shows of a notice, with the names and the text before the turn
 abbrev pub item : List Stamped → Notice → Item
@@ -23,7 +30,7 @@ item j n = record {
   sender = n.message.sender;
   sender_name = user_name j n.message.sender;
   trigger = n.trigger;
-  via = None;
+  via = option_map (named_group j) (came_by n.message n.user);
   text = n.message.text;
 }
 

@@ -2,15 +2,17 @@
 -- the position that is spoken of.
 use Rattle.std.specs.Prelude.{ℕ, zero, suc, ◌+◌, Bool, true, false, ◌&&◌, ◌==◌, List, [], ◌∷◌, Option, Some, None, is_some, unwrap_or, length, map, slice_get, count_by, if◌then◌else◌}
 use Rattle.std.specs.Option.{option_map_or}
-use Rattle.std.specs.List.{filter_map, range_with_len}
+use Rattle.std.specs.List.{filter_map, list_any, range_with_len}
 use Rattle.chat_model.specs.declared.event.Stamped.{Stamped}
 use Rattle.chat_model.specs.declared.event.Event.{Event}
 use Rattle.chat_model.specs.declared.event.Event.TheVariants.{Asked}
-use Rattle.chat_model.specs.declared.request.Request.TheVariants.{AddUser, AddChannel, Subscribe, Send}
+use Rattle.chat_model.specs.declared.request.Request.TheVariants.{AddUser, AddGroup, Member, AddChannel, Subscribe, Send}
 use Rattle.chat_model.specs.declared.ids.UserId.{UserId}
 use Rattle.chat_model.specs.declared.ids.ChannelId.{ChannelId}
+use Rattle.chat_model.specs.declared.ids.GroupId.{GroupId}
 use Rattle.chat_model.specs.declared.settings.Settings.{Settings}
 use Rattle.chat_model.specs.declared.mentions.UserName.{UserName}
+use Rattle.chat_model.specs.declared.mentions.GroupName.{GroupName}
 use Rattle.chat_model.specs.Settings.{default_settings}
 use Rattle.notice_ledger.specs.Journal.{Occurrence, occurrences, last_given}
 
@@ -62,6 +64,32 @@ named_from n (p ∷ ps) = record { id = record { 0 = n }; name = p.name } ∷ na
 abbrev pub user_names : List Stamped → List UserName
 user_names j = named_from 1 (people j)
 
+-- the group that an event adds, by its name
+abbrev pub group_of : Event → Option (List ℕ)
+group_of (Asked (AddGroup name members)) = Some name
+group_of _ = None
+
+-- the names of the groups, in the order of their numbers
+unfoldable pub groups : List Stamped → List (List ℕ)
+groups j = filter_map (λ s. group_of s.event) j
+
+-- a group's name
+abbrev pub group_name : List Stamped → GroupId → List ℕ
+group_name j g = unwrap_or (numbered g.0 (groups j)) []
+
+-- there is a group of that number
+abbrev pub is_group : List Stamped → GroupId → Bool
+is_group j g = is_some (numbered g.0 (groups j))
+
+-- each group with its name, ascending
+abbrev pub named_groups_from : ℕ → List (List ℕ) → List GroupName
+named_groups_from n [] = []
+named_groups_from n (name ∷ names) = record { id = record { 0 = n }; name = name } ∷ named_groups_from (n + 1) names
+
+-- the groups with their names, ascending
+abbrev pub group_names : List Stamped → List GroupName
+group_names j = named_groups_from 1 (groups j)
+
 -- the channel that an event adds, by its name
 abbrev pub channel_of : Event → Option (List ℕ)
 channel_of (Asked (AddChannel name)) = Some name
@@ -109,6 +137,25 @@ makes_deal _ = false
 unfoldable pub deal_count : List Stamped → ℕ
 deal_count j = count_by (λ s. makes_deal s.event) j
 
+-- the user is one of these
+abbrev pub is_one_of : List UserId → UserId → Bool
+is_one_of us u = list_any (λ v. v.0 == u.0) us
+
+-- what an event makes of a user's membership in a group: the event that adds the group makes members of those whom it
+-- names and of nobody else
+abbrev pub membership_change : GroupId → UserId → List Stamped → Event → Option Bool
+membership_change g u past (Asked (AddGroup name members)) = if length (groups past) + 1 == g.0 then Some (is_one_of members u) else None
+membership_change g u past (Asked (Member group user on)) = if group.0 == g.0 && user.0 == u.0 then Some on else None
+membership_change g u past _ = None
+
+-- whether a user is a member of a group
+unfoldable pub is_member : List Stamped → GroupId → UserId → Bool
+is_member j g u = last_given (λ o. membership_change g u o.past o.event) false j
+
+-- how many members a group has
+unfoldable pub member_count : List Stamped → GroupId → ℕ
+member_count j g = count_by (is_member j g) (users j)
+
 -- what an event makes of a user's subscription to a channel
 abbrev pub subscription_change : UserId → ChannelId → Event → Option Bool
 subscription_change u c (Asked (Subscribe user channel on)) = if user.0 == u.0 && channel.0 == c.0 then Some on else None
@@ -116,7 +163,11 @@ subscription_change u c _ = None
 
 -- whether a user is subscribed to a channel
 unfoldable pub subscribed : List Stamped → UserId → ChannelId → Bool
-subscribed j u c = last_given (subscription_change u c) false j
+subscribed j u c = last_given (λ o. subscription_change u c o.event) false j
+
+-- how many subscribers a channel has
+unfoldable pub subscriber_count : List Stamped → ChannelId → ℕ
+subscriber_count j c = count_by (λ u. subscribed j u c) (users j)
 
 -- a user's settings
 abbrev pub settings : List Stamped → UserId → Settings

@@ -1,9 +1,16 @@
-//! What the journal means: the definitions that every table, answer and outbox entry is held to.
+//! What the journal means: the definitions that every table, answer and outbox entry is held to, and the rules of
+//! a request that need no journal.
 //!
-//! They are in this crate's specifications, where contracts of the crates above cite them. Each is a function
-//! of the journal alone, and knows no table and no index.
+//! The definitions are in this crate's specifications, where contracts of the crates above cite them. Each is a
+//! function of the journal alone, and knows no table and no index.
 #![tactic(auto)]
 
 mod account;
+mod order;
+mod rules;
+#[cfg(test)]
+mod tests;
 
 pub use account::Account;
+pub use order::in_order;
+pub use rules::{is_bad_name, is_blank, is_longer_than};

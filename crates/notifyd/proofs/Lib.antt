@@ -1,8 +1,8 @@
 pub mod FileLemmas
 pub mod SinkLemmas
 pub mod FieldLemmas
+pub mod ListedLemmas
 pub mod TextLemmas
-pub mod PlainLemmas
 pub mod LineLemmas
 pub mod PlayLemmas
 pub mod CutLemmas

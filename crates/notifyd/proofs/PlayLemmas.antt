@@ -7,7 +7,8 @@ use Rattle.chat_model.specs.declared.request.Request.{Request}
 use Rattle.chat_model.specs.declared.request.Answer.{Answer}
 use Rattle.chat_model.specs.declared.request.Refusal.{Refusal}
 use Rattle.notice_ledger.specs.Journal.{stamp}
-use Rattle.notice_ledger.specs.Lawful.{refusal}
+use Rattle.notice_ledger.specs.InOrder.{in_order}
+use Rattle.notice_ledger.specs.Refusals.{refusal}
 use Rattle.office.specs.declared.answer.AskFault.{AskFault}
 use Rattle.office.specs.declared.answer.AskFault.TheVariants.{Refused}
 use Rattle.office.specs.Office.{answer_of}
@@ -21,7 +22,7 @@ unrefused None answer exact other = refl
 unrefused (Some n) answer exact other = absurd (other n ((exact n).1 refl))
 
 -- a request that is granted
-pub granted_step : (j after : List Stamped) (clock : ℕ) (r : Request) (a : Answer) → refusal j r ≡ None → a ≡ answer_of j r → after ≡ j ++ record { at = stamp j clock; event = event.Asked r } ∷ [] → IsStep (world j clock) (line.Asked r) (Some (reply.Answer a)) (world after clock)
+pub granted_step : (j after : List Stamped) (clock : ℕ) (r : Request) (a : Answer) → refusal j r ≡ None → a ≡ answer_of j r → after ≡ j ++ record { at = stamp j clock; event = event.Asked (in_order r) } ∷ [] → IsStep (world j clock) (line.Asked r) (Some (reply.Answer a)) (world after clock)
 granted_step j after clock r a allowed answered added = record {
   made = rw (allowed, answered, added) refl;
   marked = tt;

@@ -8,14 +8,15 @@ use Rattle.std.proofs.lemmas.Bool.{ne_eqb}
 use Rattle.chat_model.specs.declared.counts.Counts.{Counts}
 use Rattle.chat_model.specs.declared.request.Request.{Request}
 use Rattle.chat_model.specs.declared.request.Refusal.{Refusal}
-use Rattle.chat_model.specs.declared.request.Answer.TheVariants.{User, Channel, Sent, Done}
+use Rattle.chat_model.specs.declared.request.Refusal.TheVariants.{TooMany}
+use Rattle.chat_model.specs.declared.request.Answer.TheVariants.{User, Group, Channel, Sent, Done}
 use Rattle.office.specs.declared.answer.MailAnswer.TheVariants.{Mailed, NotDue}
 use Rattle.chat_model.specs.declared.event.Event.TheVariants as event
 use Rattle.notice_ledger.specs.Due.{DueUser, first_due, batch_rows}
 use Rattle.notice_ledger.specs.Outbox.{mail_entries}
-use Rattle.notice_ledger.specs.Lawful.{refusal}
+use Rattle.notice_ledger.specs.Refusals.{refusal}
 use Rattle.notifyd.specs.Reply.{reply_text}
-use Rattle.notifyd.specs.Words.{answer_words, mail_words, account_words, count_words, refusal_number}
+use Rattle.notifyd.specs.Words.{answer_words, mail_words, account_words, count_words, refusal_number, limit_words, refusal_words}
 use Rattle.notifyd.specs.Play.{World, Mark, Step, step, asked_unless, mailed_for, MayHave, IsStep, PlaysLines, mark_of, answer_text, stamp_now, with_event}
 use Rattle.notifyd.specs.Play.Mark.{Clean, NoMemory, KeeperFault}
 use Rattle.notifyd.specs.Shown.{has_output, has_line_feed, IsOneLine, GivesMark, IsShown, AreShown, lines_after, mark_given, marks_given, marks_of}
@@ -73,11 +74,20 @@ counts_plain c =
     let waiting = entries ++ codes " waiting=" ++ decimal c.waiting in
     with_number waiting (codes " written=") c.written (with_number entries (codes " waiting=") c.waiting (with_number accounts (codes " entries=") c.entries (accounts_plain c) refl) refl) refl
 
+limit_plain : (refused : Refusal) → has_line_feed (limit_words refused) ≡ false
+limit_plain (TooMany limit) = decimal_plain limit
+limit_plain _ = refl
+
+refusal_plain : (refused : Refusal) → has_line_feed (refusal_words refused) ≡ false
+refusal_plain refused =
+    join (codes "refused " ++ decimal (refusal_number refused)) (limit_words refused) (decimal_plain (refusal_number refused)) (limit_plain refused)
+
 one_line : (text words : List ℕ) → text ≡ words ++ 10 ∷ [] → has_line_feed words ≡ false → IsOneLine text
 one_line text words e h = record { words = words; ended = e; single = h }
 
 pub gives-mark : (answer : Reply) → GivesMark answer
 gives-mark (reply.Answer (User user)) = record { one_line = one_line _ (answer_words (User user)) refl (decimal_plain user.0); mark = refl }
+gives-mark (reply.Answer (Group group)) = record { one_line = one_line _ (answer_words (Group group)) refl (decimal_plain group.0); mark = refl }
 gives-mark (reply.Answer (Channel channel)) = record { one_line = one_line _ (answer_words (Channel channel)) refl (decimal_plain channel.0); mark = refl }
 gives-mark (reply.Answer (Sent message deal)) = record { one_line = one_line _ (answer_words (Sent message deal)) refl (with_number (codes "sent " ++ decimal message.0) (codes " deal ") deal.0 (decimal_plain message.0) refl); mark = refl }
 gives-mark (reply.Answer Done) = record { one_line = one_line _ (answer_words Done) refl refl; mark = refl }
@@ -85,7 +95,7 @@ gives-mark (reply.Mail (Mailed user entries dropped)) = record { one_line = one_
 gives-mark (reply.Mail (NotDue (Some moment))) = record { one_line = one_line _ (mail_words (NotDue (Some moment))) refl (decimal_plain moment); mark = refl }
 gives-mark (reply.Mail (NotDue None)) = record { one_line = one_line _ (mail_words (NotDue None)) refl refl; mark = refl }
 gives-mark (reply.Audit counts) = record { one_line = one_line _ (count_words counts) refl (counts_plain counts); mark = refl }
-gives-mark (reply.Refused refused) = record { one_line = one_line _ (codes "refused " ++ decimal (refusal_number refused)) refl (decimal_plain (refusal_number refused)); mark = refl }
+gives-mark (reply.Refused refused) = record { one_line = one_line _ (refusal_words refused) refl (refusal_plain refused); mark = refl }
 gives-mark reply.KeeperFault = record { one_line = one_line _ (codes "fault keeper") refl refl; mark = refl }
 gives-mark reply.OutOfMemory = record { one_line = one_line _ (codes "out of memory") refl refl; mark = refl }
 

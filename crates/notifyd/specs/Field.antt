@@ -1,9 +1,8 @@
 -- The fields of a line, and the forms that they may have. A place in a line is the number of bytes before it.
 -- A field is read at a place. It gives its value and the place behind it, or the column at which the line is bad.
-use Rattle.std.specs.Prelude.{ℕ, ◌+◌, ◌-◌, ◌*◌, ◌^◌, ◌==◌, ◌&&◌, ◌||◌, not, Bool, true, false, List, [], ◌∷◌, length, drop, slice_index, slice_range, nat_lt, nat_le, if◌then◌else◌, Option, Some, None, Result, Ok, Err, codes, bytes_eq, fold, option_and_then}
+use Rattle.std.specs.Prelude.{ℕ, ◌+◌, ◌-◌, ◌*◌, ◌^◌, ◌==◌, ◌&&◌, ◌||◌, not, Bool, true, false, List, [], ◌∷◌, length, drop, slice_index, slice_range, nat_lt, nat_le, if◌then◌else◌, Option, Some, None, Result, Ok, Err, codes, bytes_eq, fold, map, option_and_then}
 use Rattle.std.specs.Option.{option_map, ok_or}
-use Rattle.std.specs.List.{prefix_len, list_all}
-use Rattle.notifyd.specs.PlainText.{is_plain}
+use Rattle.std.specs.List.{prefix_len, list_all, slice_split}
 
 -- bytes counted from 1: the column of a place
 abbrev pub column_of : ℕ → ℕ
@@ -47,12 +46,25 @@ is_digit byte = nat_le 48 byte && nat_le byte 57
 unfoldable pub decimal_value : List ℕ → ℕ
 decimal_value digits = fold (λ value digit. 10 * value + (digit - 48)) 0 digits
 
--- a number: one to nineteen digits
+-- one to nineteen digits
+abbrev pub is_number : List ℕ → Bool
+is_number word = nat_le 1 (length word) && nat_le (length word) 19 && list_all is_digit word
+
+-- a number
 unfoldable pub number_of : List ℕ → Option ℕ
-number_of word =
-    if nat_le 1 (length word) && nat_le (length word) 19 && list_all is_digit word
-    then Some (decimal_value word)
-    else None
+number_of word = if is_number word then Some (decimal_value word) else None
+
+-- what stands between the commas of a word
+abbrev pub parts_of : List ℕ → List (List ℕ)
+parts_of word = slice_split (λ byte. byte == 44) word
+
+-- numbers separated by commas
+unfoldable pub numbers_of : List ℕ → Option (List ℕ)
+numbers_of word = if list_all is_number (parts_of word) then Some (map decimal_value (parts_of word)) else None
+
+-- numbers separated by commas, or `-` for none
+unfoldable pub list_of : List ℕ → Option (List ℕ)
+list_of word = if bytes_eq word (codes "-") then Some [] else numbers_of word
 
 -- a moment: a number below 2^37
 unfoldable pub moment_of : List ℕ → Option ℕ
@@ -112,12 +124,6 @@ unfoldable pub string_field : List ℕ → ℕ → Result (List ℕ × ℕ) ℕ
 string_field line place =
     let start = field_start line place in
     ok_or (option_map (λ len. (string_text line start len, start + len + 2)) (string_len line start)) (column_of start)
-
--- a string field whose text is plain
-unfoldable pub text_field : List ℕ → ℕ → Result (List ℕ × ℕ) ℕ
-text_field line place =
-    let start = field_start line place in
-    ok_or (option_and_then (λ len. if is_plain (string_text line start len) then Some (string_text line start len, start + len + 2) else None) (string_len line start)) (column_of start)
 
 -- no field is left
 unfoldable pub line_end : List ℕ → ℕ → Result (Unit {0}) ℕ

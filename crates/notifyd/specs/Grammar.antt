@@ -2,10 +2,11 @@
 use Rattle.std.specs.Prelude.{ℕ, ◌+◌, ◌-◌, ◌==◌, ◌&&◌, ◌||◌, Bool, false, List, length, take, slice_index, nat_lt, if◌then◌else◌, Result, Ok, Err, codes, bytes_eq}
 use Rattle.std.specs.List.{list_all}
 use Rattle.std.specs.Str.Lossy.{utf8_valid_len}
-use Rattle.chat_model.specs.declared.request.Request.TheVariants.{AddUser, AddChannel, Subscribe, Send}
+use Rattle.chat_model.specs.declared.request.Request.TheVariants.{AddUser, AddGroup, Member, AddChannel, Subscribe, Send}
 use Rattle.notifyd.specs.declared.line.Line.{Line}
 use Rattle.notifyd.specs.declared.line.Line.TheVariants.{Nothing, At, Asked, Mail, Audit}
-use Rattle.notifyd.specs.Field.{column_of, is_space, field_start, word_end, word_at, word_field, number_of, moment_of, switch_of, string_field, text_field, line_end}
+use Rattle.notifyd.specs.Field.{column_of, is_space, field_start, word_end, word_at, word_field, number_of, moment_of, switch_of, list_of, string_field, line_end}
+use Rattle.notifyd.specs.Listed.{users_of}
 
 -- what a part of a line reads as, or the column at which the line is bad
 infixl 10 ◌>>=◌
@@ -27,6 +28,23 @@ user_line line place = do
   name ← string_field line place
   end ← line_end line name.1
   Ok (Asked (AddUser name.0 false))
+
+-- `group STR LISTE`: name, members
+unfoldable pub group_line : List ℕ → ℕ → Result Line ℕ
+group_line line place = do
+  name ← string_field line place
+  members ← word_field list_of line name.1
+  end ← line_end line members.1
+  Ok (Asked (AddGroup name.0 (users_of members.0)))
+
+-- `member ID ID BOOL`: group, user
+unfoldable pub member_line : List ℕ → ℕ → Result Line ℕ
+member_line line place = do
+  group ← word_field number_of line place
+  user ← word_field number_of line group.1
+  on ← word_field switch_of line user.1
+  end ← line_end line on.1
+  Ok (Asked (Member (record { 0 = group.0 }) (record { 0 = user.0 }) on.0))
 
 -- `channel STR`
 unfoldable pub channel_line : List ℕ → ℕ → Result Line ℕ
@@ -50,7 +68,7 @@ send_line line place = do
   sender ← word_field number_of line place
   channel ← word_field number_of line sender.1
   topic ← string_field line channel.1
-  text ← text_field line topic.1
+  text ← string_field line topic.1
   end ← line_end line text.1
   Ok (Asked (Send (record { 0 = sender.0 }) (record { 0 = channel.0 }) topic.0 text.0))
 
@@ -74,12 +92,14 @@ fields_reading line =
     let place = word_end line start in
     if bytes_eq word (codes "at") then at_line line place
     else (if bytes_eq word (codes "user") then user_line line place
+    else (if bytes_eq word (codes "group") then group_line line place
+    else (if bytes_eq word (codes "member") then member_line line place
     else (if bytes_eq word (codes "channel") then channel_line line place
     else (if bytes_eq word (codes "sub") then subscribe_line line place
     else (if bytes_eq word (codes "send") then send_line line place
     else (if bytes_eq word (codes "mail") then mail_line line place
     else (if bytes_eq word (codes "audit") then audit_line line place
-    else Err (column_of start)))))))
+    else Err (column_of start)))))))))
 
 -- a line that is empty, has only spaces, or whose first byte is `#`
 unfoldable pub is_nothing : List ℕ → Bool

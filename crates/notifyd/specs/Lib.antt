@@ -5,9 +5,9 @@ pub mod Sink
 pub mod Words
 pub mod Reply
 pub mod LastLine
-pub mod PlainText
 pub mod Field
 pub mod Quoted
+pub mod Listed
 pub mod Form
 pub mod Grammar
 pub mod Fault

@@ -8,7 +8,8 @@ use Rattle.chat_model.specs.declared.event.Event.TheVariants as event
 use Rattle.chat_model.specs.declared.request.Request.{Request}
 use Rattle.chat_model.specs.declared.request.Refusal.{Refusal}
 use Rattle.notice_ledger.specs.Journal.{stamp}
-use Rattle.notice_ledger.specs.Lawful.{refusal}
+use Rattle.notice_ledger.specs.InOrder.{in_order}
+use Rattle.notice_ledger.specs.Refusals.{refusal}
 use Rattle.notice_ledger.specs.Due.{DueUser, first_due, batch_rows}
 use Rattle.notice_ledger.specs.Outbox.{mail_entries}
 use Rattle.notice_ledger.specs.Audit.{counts_of}
@@ -51,11 +52,11 @@ stamp_now w = stamp w.journal w.clock
 abbrev pub with_event : World → Event → World
 with_event w what = world (w.journal ++ record { at = stamp_now w; event = what } ∷ []) w.clock
 
--- a request is refused, and the world stays, or it is an event
+-- a request is refused, and the world stays, or it is an event, which keeps its lists in order
 abbrev pub asked_unless : Option Refusal → World → Request → Step
 asked_unless (Some refused) w request = record { after = w; reply = Some (reply.Refused refused) }
 asked_unless None w request =
-    record { after = with_event w (event.Asked request); reply = Some (reply.Answer (answer_of w.journal request)) }
+    record { after = with_event w (event.Asked (in_order request)); reply = Some (reply.Answer (answer_of w.journal request)) }
 
 -- a mail turn takes the user of the least due moment, once it is due; else the world stays
 abbrev pub mailed_for : Option DueUser → World → Step

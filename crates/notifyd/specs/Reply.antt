@@ -1,14 +1,14 @@
 -- The text of a reply.
-use Rattle.std.specs.Prelude.{ℕ, List, ◌++◌, codes, decimal}
+use Rattle.std.specs.Prelude.{ℕ, List, codes}
 use Rattle.notifyd.specs.declared.reply.Reply.{Reply}
 use Rattle.notifyd.specs.declared.reply.Reply.TheVariants.{Answer, Mail, Audit, Refused, KeeperFault, OutOfMemory}
-use Rattle.notifyd.specs.Words.{line_of, answer_words, mail_words, count_words, refusal_number}
+use Rattle.notifyd.specs.Words.{line_of, answer_words, mail_words, count_words, refusal_words}
 
 -- the line of a reply, with its line feed
 abbrev pub reply_text : Reply → List ℕ
 reply_text (Answer answer) = line_of (answer_words answer)
 reply_text (Mail answer) = line_of (mail_words answer)
 reply_text (Audit counts) = line_of (count_words counts)
-reply_text (Refused refusal) = line_of (codes "refused " ++ decimal (refusal_number refusal))
+reply_text (Refused refusal) = line_of (refusal_words refusal)
 reply_text KeeperFault = line_of (codes "fault keeper")
 reply_text OutOfMemory = line_of (codes "out of memory")

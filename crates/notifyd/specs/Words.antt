@@ -2,9 +2,9 @@
 use Rattle.std.specs.Prelude.{ℕ, List, ◌++◌, ◌∷◌, [], codes, decimal, Some, None}
 use Rattle.chat_model.specs.declared.counts.Counts.{Counts}
 use Rattle.chat_model.specs.declared.request.Answer.{Answer}
-use Rattle.chat_model.specs.declared.request.Answer.TheVariants.{User, Channel, Sent, Done}
+use Rattle.chat_model.specs.declared.request.Answer.TheVariants.{User, Group, Channel, Sent, Done}
 use Rattle.chat_model.specs.declared.request.Refusal.{Refusal}
-use Rattle.chat_model.specs.declared.request.Refusal.TheVariants.{NoUser, NoChannel, NotSubscribed}
+use Rattle.chat_model.specs.declared.request.Refusal.TheVariants.{NoUser, NoChannel, NoGroup, Exists, NotSubscribed, EmptyText, TextTooLong, TopicTooLong, TooMany, NameTooLong, BadName}
 use Rattle.office.specs.declared.answer.MailAnswer.{MailAnswer}
 use Rattle.office.specs.declared.answer.MailAnswer.TheVariants.{Mailed, NotDue}
 
@@ -15,6 +15,7 @@ line_of words = words ++ 10 ∷ []
 -- what a request that was granted is answered
 abbrev pub answer_words : Answer → List ℕ
 answer_words (User user) = codes "user " ++ decimal user.0
+answer_words (Group group) = codes "group " ++ decimal group.0
 answer_words (Channel channel) = codes "channel " ++ decimal channel.0
 answer_words (Sent message deal) = codes "sent " ++ decimal message.0 ++ codes " deal " ++ decimal deal.0
 answer_words Done = codes "ok"
@@ -44,4 +45,21 @@ count_words counts =
 abbrev pub refusal_number : Refusal → ℕ
 refusal_number NoUser = 10
 refusal_number NoChannel = 11
+refusal_number NoGroup = 13
+refusal_number Exists = 14
 refusal_number NotSubscribed = 16
+refusal_number EmptyText = 17
+refusal_number TextTooLong = 18
+refusal_number TopicTooLong = 19
+refusal_number (TooMany limit) = 23
+refusal_number NameTooLong = 24
+refusal_number BadName = 25
+
+-- what stands behind the number of a refusal: the limit that a list was too long for
+abbrev pub limit_words : Refusal → List ℕ
+limit_words (TooMany limit) = codes " limit " ++ decimal limit
+limit_words _ = []
+
+-- what a request that broke a rule is answered
+abbrev pub refusal_words : Refusal → List ℕ
+refusal_words refusal = codes "refused " ++ decimal (refusal_number refusal) ++ limit_words refusal

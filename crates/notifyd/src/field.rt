@@ -1,11 +1,9 @@
 //! The fields of a line. A place in a line is the number of bytes before it.
 ghost use Rattle.std.specs.Prelude.{◌≡◌, ℕ, ◌+◌, ◌*◌, ◌^◌, ◌<◌, ◌≤◌, ◌==◌, not, length, drop, slice_index, slice_range, IfOk, IfErr, IfSome, MatchOption, MatchResult, IsUtf8, Ok, Err, Some, None, option_and_then};
 ghost use Rattle.notifyd.specs.Quoted.{IsTextAt, text_at};
-ghost use Rattle.notifyd.specs.PlainText.{is_plain};
-ghost use Rattle.notifyd.specs.Field.{column_of, is_space, is_no_space, run_end, field_start, word_end, word_at, word_field, number_of, moment_of, switch_of, quoted_len, unescaped, is_escape, begins_escape, ends_field, string_len, string_text, string_field, text_field, line_end};
+ghost use Rattle.notifyd.specs.Field.{column_of, is_space, is_no_space, run_end, field_start, word_end, word_at, word_field, number_of, moment_of, switch_of, quoted_len, unescaped, is_escape, begins_escape, ends_field, string_len, string_text, string_field, line_end};
 
 use crate::line::{Column, MAX_LINE};
-use crate::plain_text::is_plain;
 use chat_model::Moment;
 
 /// Where the bytes of a string field stand, between its quotes.
@@ -37,7 +35,8 @@ pub fn field_start(line: &[u8], place: usize) -> usize
     start
 }
 
-fn word_end(line: &[u8], start: usize) -> usize
+/// Where a field that is no string field ends: at the next space from this place on.
+pub fn word_end(line: &[u8], start: usize) -> usize
     requires { start ≤ length line.now }
     ensures end { result ≡ word_end line.now start }
     ensures behind { start ≤ result }
@@ -109,8 +108,9 @@ pub fn switch_field(line: &[u8], place: usize) -> Result<(bool, usize), Column>
     }
 }
 
+/// The number that one to nineteen digits write.
 #[tactic(auto, unfolding(crate::specs::Field::number_of))]
-fn number_of(word: &[u8]) -> Option<u64>
+pub fn number_of(word: &[u8]) -> Option<u64>
     ensures { result ≡ number_of word.now }
 {
     if word.is_empty() || word.len() > 19 {
@@ -166,29 +166,6 @@ pub fn string_field(line: &[u8], place: usize) -> Result<(Quoted, usize), Column
             start + len + 2,
         )),
         None => Err(column_of(start)),
-    }
-}
-
-/// A string field whose text is plain, and the place behind it.
-#[tactic(auto, unfolding(crate::specs::Field::text_field))]
-pub fn text_field(line: &[u8], place: usize) -> Result<(Quoted, usize), Column>
-    requires small { length line.now ≤ MAX_LINE }
-    requires place { place ≤ length line.now }
-    ensures ok { IfOk result (λ read. text_field line.now place ≡ Ok (text_at line.now read.0, read.1)) }
-    ensures err { IfErr result (λ column. text_field line.now place ≡ Err column) }
-    ensures within { IfOk result (λ read. read.1 ≤ length line.now) }
-    ensures sound { IfOk result (λ read. IsTextAt line.now read.0) }
-{
-    let start = field_start(line, place);
-    match string_len(line, start) {
-        Some(len) if is_plain(&line[start + 1..start + 1 + len]) => Ok((
-            Quoted {
-                from: start + 1,
-                to: start + 1 + len,
-            },
-            start + len + 2,
-        )),
-        _ => Err(column_of(start)),
     }
 }
 

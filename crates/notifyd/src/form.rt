@@ -1,25 +1,35 @@
-//! A line whose fields were read, before any memory is taken for its texts.
+//! A line whose fields were read, before any memory is taken for its texts and lists.
 ghost use Rattle.std.specs.Prelude.{◌≡◌, ◌≤◌, List, length, IfOk, IfErr, IsErr, IsUtf8, Ok, Err};
 ghost use Rattle.notifyd.specs.Field.{column_of, unescaped, escaped};
 ghost use Rattle.notifyd.specs.Quoted.{IsTextAt, text_at};
-ghost use Rattle.notifyd.specs.Form.{line_of_form, HasTexts};
+ghost use Rattle.notifyd.specs.Form.{line_of_form, HasFields};
 ghost use Rattle.notifyd.specs.Grammar.{IsRequest};
-ghost use Rattle.notifyd.specs.Grammar.{at_line, user_line, channel_line, subscribe_line, send_line, mail_line, audit_line, fields_reading};
+ghost use Rattle.notifyd.specs.Grammar.{at_line, user_line, group_line, member_line, channel_line, subscribe_line, send_line, mail_line, audit_line, fields_reading};
 
 use crate::field::{
     Quoted, begins_escape, column_of, first_word, line_end, moment_field, number_field,
-    string_field, switch_field, text_field,
+    string_field, switch_field,
 };
 use crate::line::{Column, Line, MAX_LINE};
-use chat_model::{ChannelId, Moment, OutOfMemory, Request, Text, UserId};
+use crate::listed::{Listed, list_field, users_at};
+use chat_model::{ChannelId, GroupId, Moment, OutOfMemory, Request, Text, UserId};
 use std::alloc::Global;
 
-/// A line of fields. Its texts still stand in the bytes of the line.
+/// A line of fields. Its texts and lists still stand in the bytes of the line.
 #[derive(Clone, Copy, Debug, PartialEq, Eq)]
 pub enum Form {
     At(Moment),
     User {
         name: Quoted,
+    },
+    Group {
+        name: Quoted,
+        members: Listed,
+    },
+    Member {
+        group: GroupId,
+        user: UserId,
+        on: bool,
     },
     Channel {
         name: Quoted,
@@ -45,7 +55,7 @@ pub fn read_form(line: &[u8]) -> Result<Form, Column>
     requires { length line.now ≤ MAX_LINE }
     ensures ok { IfOk result (λ form. fields_reading line.now ≡ Ok (line_of_form line.now form)) }
     ensures err { IfErr result (λ column. fields_reading line.now ≡ Err column) }
-    ensures texts { IfOk result (HasTexts line.now) }
+    ensures fields { IfOk result (HasFields line.now) }
 {
     let (start, place) = first_word(line);
     let word = &line[start..place];
@@ -53,6 +63,10 @@ pub fn read_form(line: &[u8]) -> Result<Form, Column>
         read_at(line, place)
     } else if word == b"user".as_slice() {
         read_user(line, place)
+    } else if word == b"group".as_slice() {
+        read_group(line, place)
+    } else if word == b"member".as_slice() {
+        read_member(line, place)
     } else if word == b"channel".as_slice() {
         read_channel(line, place)
     } else if word == b"sub".as_slice() {
@@ -74,7 +88,7 @@ fn read_at(line: &[u8], place: usize) -> Result<Form, Column>
     requires place { place ≤ length line.now }
     ensures ok { IfOk result (λ form. at_line line.now place ≡ Ok (line_of_form line.now form)) }
     ensures err { IfErr result (λ column. at_line line.now place ≡ Err column) }
-    ensures texts { IfOk result (HasTexts line.now) }
+    ensures fields { IfOk result (HasFields line.now) }
 {
     let (moment, place) = moment_field(line, place)?;
     line_end(line, place)?;
@@ -87,11 +101,44 @@ fn read_user(line: &[u8], place: usize) -> Result<Form, Column>
     requires place { place ≤ length line.now }
     ensures ok { IfOk result (λ form. user_line line.now place ≡ Ok (line_of_form line.now form)) }
     ensures err { IfErr result (λ column. user_line line.now place ≡ Err column) }
-    ensures texts { IfOk result (HasTexts line.now) }
+    ensures fields { IfOk result (HasFields line.now) }
 {
     let (name, place) = string_field(line, place)?;
     line_end(line, place)?;
     Ok(Form::User { name })
+}
+
+#[tactic(auto, unfolding(crate::specs::Grammar::group_line))]
+fn read_group(line: &[u8], place: usize) -> Result<Form, Column>
+    requires small { length line.now ≤ MAX_LINE }
+    requires place { place ≤ length line.now }
+    ensures ok { IfOk result (λ form. group_line line.now place ≡ Ok (line_of_form line.now form)) }
+    ensures err { IfErr result (λ column. group_line line.now place ≡ Err column) }
+    ensures fields { IfOk result (HasFields line.now) }
+{
+    let (name, place) = string_field(line, place)?;
+    let (members, place) = list_field(line, place)?;
+    line_end(line, place)?;
+    Ok(Form::Group { name, members })
+}
+
+#[tactic(auto, unfolding(crate::specs::Grammar::member_line))]
+fn read_member(line: &[u8], place: usize) -> Result<Form, Column>
+    requires small { length line.now ≤ MAX_LINE }
+    requires place { place ≤ length line.now }
+    ensures ok { IfOk result (λ form. member_line line.now place ≡ Ok (line_of_form line.now form)) }
+    ensures err { IfErr result (λ column. member_line line.now place ≡ Err column) }
+    ensures fields { IfOk result (HasFields line.now) }
+{
+    let (group, place) = number_field(line, place)?;
+    let (user, place) = number_field(line, place)?;
+    let (on, place) = switch_field(line, place)?;
+    line_end(line, place)?;
+    Ok(Form::Member {
+        group: GroupId(group),
+        user: UserId(user),
+        on,
+    })
 }
 
 #[tactic(auto, unfolding(crate::specs::Grammar::channel_line))]
@@ -100,7 +147,7 @@ fn read_channel(line: &[u8], place: usize) -> Result<Form, Column>
     requires place { place ≤ length line.now }
     ensures ok { IfOk result (λ form. channel_line line.now place ≡ Ok (line_of_form line.now form)) }
     ensures err { IfErr result (λ column. channel_line line.now place ≡ Err column) }
-    ensures texts { IfOk result (HasTexts line.now) }
+    ensures fields { IfOk result (HasFields line.now) }
 {
     let (name, place) = string_field(line, place)?;
     line_end(line, place)?;
@@ -113,7 +160,7 @@ fn read_subscribe(line: &[u8], place: usize) -> Result<Form, Column>
     requires place { place ≤ length line.now }
     ensures ok { IfOk result (λ form. subscribe_line line.now place ≡ Ok (line_of_form line.now form)) }
     ensures err { IfErr result (λ column. subscribe_line line.now place ≡ Err column) }
-    ensures texts { IfOk result (HasTexts line.now) }
+    ensures fields { IfOk result (HasFields line.now) }
 {
     let (user, place) = number_field(line, place)?;
     let (channel, place) = number_field(line, place)?;
@@ -132,12 +179,12 @@ fn read_send(line: &[u8], place: usize) -> Result<Form, Column>
     requires place { place ≤ length line.now }
     ensures ok { IfOk result (λ form. send_line line.now place ≡ Ok (line_of_form line.now form)) }
     ensures err { IfErr result (λ column. send_line line.now place ≡ Err column) }
-    ensures texts { IfOk result (HasTexts line.now) }
+    ensures fields { IfOk result (HasFields line.now) }
 {
     let (sender, place) = number_field(line, place)?;
     let (channel, place) = number_field(line, place)?;
     let (topic, place) = string_field(line, place)?;
-    let (text, place) = text_field(line, place)?;
+    let (text, place) = string_field(line, place)?;
     line_end(line, place)?;
     Ok(Form::Send {
         sender: UserId(sender),
@@ -153,7 +200,7 @@ fn read_mail(line: &[u8], place: usize) -> Result<Form, Column>
     requires place { place ≤ length line.now }
     ensures ok { IfOk result (λ form. mail_line line.now place ≡ Ok (line_of_form line.now form)) }
     ensures err { IfErr result (λ column. mail_line line.now place ≡ Err column) }
-    ensures texts { IfOk result (HasTexts line.now) }
+    ensures fields { IfOk result (HasFields line.now) }
 {
     line_end(line, place)?;
     Ok(Form::Mail)
@@ -165,16 +212,16 @@ fn read_audit(line: &[u8], place: usize) -> Result<Form, Column>
     requires place { place ≤ length line.now }
     ensures ok { IfOk result (λ form. audit_line line.now place ≡ Ok (line_of_form line.now form)) }
     ensures err { IfErr result (λ column. audit_line line.now place ≡ Err column) }
-    ensures texts { IfOk result (HasTexts line.now) }
+    ensures fields { IfOk result (HasFields line.now) }
 {
     line_end(line, place)?;
     Ok(Form::Audit)
 }
 
-/// Takes the memory for the texts of a form.
+/// Takes the memory for the texts and the list of a form.
 pub fn make_line(alloc: Global, line: &[u8], form: Form) -> Result<Line, OutOfMemory>
     requires utf8 { IsUtf8 line.now }
-    requires texts { HasTexts line.now form }
+    requires fields { HasFields line.now form }
     ensures ok { IfOk result (λ made. made ≡ line_of_form line.now form) }
     ensures err { IsErr result → IsRequest (line_of_form line.now form) }
 {
@@ -184,6 +231,11 @@ pub fn make_line(alloc: Global, line: &[u8], form: Form) -> Result<Line, OutOfMe
             name: text_at(alloc, line, name)?,
             bot: false,
         })),
+        Form::Group { name, members } => Ok(Line::Asked(Request::AddGroup {
+            name: text_at(alloc, line, name)?,
+            members: users_at(alloc, line, members)?,
+        })),
+        Form::Member { group, user, on } => { Ok(Line::Asked(Request::Member { group, user, on })) }
         Form::Channel { name } => Ok(Line::Asked(Request::AddChannel {
             name: text_at(alloc, line, name)?,
         })),

@@ -6,7 +6,7 @@ mod field;
 mod form;
 mod last_line;
 mod line;
-mod plain_text;
+mod listed;
 mod play;
 mod print_line;
 mod reply;
@@ -29,6 +29,12 @@ pub use standard::{StandardSink, StandardSource};
 use std::process::ExitCode;
 use std::{env, io};
 
+#[cfg(test)]
+mod listed_tests;
+#[cfg(test)]
+mod play_tests;
+#[cfg(test)]
+mod request_tests;
 #[cfg(test)]
 mod run_tests;
 #[cfg(test)]

@@ -3,7 +3,7 @@ ghost use Rattle.std.specs.Prelude.{◌≡◌, ◌+◌, ◌≤◌, ◌++◌, len
 ghost use Rattle.std.specs.Option.{option_map};
 ghost use Rattle.chat_model.specs.Counts.{HasRisen};
 ghost use Rattle.notifyd.specs.Sink.{WritesFront};
-ghost use Rattle.notifyd.specs.Words.{answer_words, mail_words, account_words, count_words, refusal_number};
+ghost use Rattle.notifyd.specs.Words.{answer_words, mail_words, account_words, count_words, refusal_number, limit_words, refusal_words};
 ghost use Rattle.notifyd.specs.Reply.{reply_text};
 
 use crate::Sink;
@@ -73,6 +73,10 @@ fn push_answer(line: &mut LineBuffer, answer: &Answer)
         Answer::User(user) => {
             line.push_str("user ");
             push_number(line, user.0);
+        }
+        Answer::Group(group) => {
+            line.push_str("group ");
+            push_number(line, group.0);
         }
         Answer::Channel(channel) => {
             line.push_str("channel ");
@@ -144,11 +148,22 @@ fn push_counts(line: &mut LineBuffer, counts: &Counts)
 
 fn push_refusal(line: &mut LineBuffer, refusal: Refusal)
     requires { length line.old.bytes ≤ 100 }
-    ensures bytes { line.new.bytes ≡ line.old.bytes ++ (codes "refused " ++ decimal (refusal_number refusal)) }
+    ensures bytes { line.new.bytes ≡ line.old.bytes ++ refusal_words refusal }
     ensures length { length line.new.bytes ≤ length line.old.bytes + 100 }
 {
-    line.push_str("refused ");
-    push_number(line, number_of(refusal));
+    push_count(line, "refused ", number_of(refusal));
+    push_limit(line, refusal);
+}
+
+// Puts the limit behind the line, where a list was too long.
+fn push_limit(line: &mut LineBuffer, refusal: Refusal)
+    requires { length line.old.bytes ≤ 200 }
+    ensures bytes { line.new.bytes ≡ line.old.bytes ++ limit_words refusal }
+    ensures length { length line.new.bytes ≤ length line.old.bytes + 30 }
+{
+    if let Refusal::TooMany { limit } = refusal {
+        push_count(line, " limit ", limit);
+    }
 }
 
 fn number_of(refusal: Refusal) -> u64
@@ -157,6 +172,14 @@ fn number_of(refusal: Refusal) -> u64
     match refusal {
         Refusal::NoUser => 10,
         Refusal::NoChannel => 11,
+        Refusal::NoGroup => 13,
+        Refusal::Exists => 14,
         Refusal::NotSubscribed => 16,
+        Refusal::EmptyText => 17,
+        Refusal::TextTooLong => 18,
+        Refusal::TopicTooLong => 19,
+        Refusal::TooMany { .. } => 23,
+        Refusal::NameTooLong => 24,
+        Refusal::BadName => 25,
     }
 }

@@ -6,22 +6,22 @@ use std::alloc::{AllocError, Global};
 use std::process::Abort;
 use std::test::Fail;
 
-const OPENING: &str =
+pub const OPENING: &str =
     "user \"Ada\"\nuser \"Ben\"\nchannel \"team\"\nsub 1 1 on\nsub 2 1 on\nat 100\n";
 
-const OPENED: &str = "user 1\nuser 2\nchannel 1\nok\nok\n";
+pub const OPENED: &str = "user 1\nuser 2\nchannel 1\nok\nok\n";
 
 const MENTION: &str = "send 1 1 \"lunch\" \"hi @**Ben**\"\n";
 
 // The numbers of the calls at which each device fails.
 #[derive(Clone, Copy)]
-struct Failing<'a> {
+pub struct Failing<'a> {
     source: &'a [u64],
     sink: &'a [u64],
     keeper: &'a [u64],
 }
 
-const NEVER: Failing<'static> = Failing {
+pub const NEVER: Failing<'static> = Failing {
     source: &[],
     sink: &[],
     keeper: &[],
@@ -32,7 +32,7 @@ fn list_of(alloc: Global, numbers: &[u64]) -> Result<List<u64>, AllocError> {
 }
 
 // Runs `play` on the bytes in pieces of so many, and compares what is written and the status.
-fn expect_run<R: Abort + AllocGlobal>(
+pub fn expect_run<R: Abort + AllocGlobal>(
     rt: &R,
     bytes: List<u8>,
     piece: usize,
@@ -61,7 +61,7 @@ fn expect_run<R: Abort + AllocGlobal>(
     Ok(())
 }
 
-fn expect_play<R: Abort + AllocGlobal>(
+pub fn expect_play<R: Abort + AllocGlobal>(
     rt: &R,
     script: &str,
     piece: usize,
@@ -108,15 +108,6 @@ fn a_failed_send_is_sent_again(rt: HostRuntime) -> Result<(), Fail> {
         ..NEVER
     };
     expect_play(&rt, script.as_str(), 4_096, &failing, written.as_str(), 5)
-}
-
-#[test]
-fn requests_that_break_a_rule_are_refused(rt: HostRuntime) -> Result<(), Fail> {
-    let alloc = rt.alloc();
-    let sends = "send 3 1 \"a\" \"x\"\nsend 1 9 \"a\" \"x\"\nsub 2 1 off\nsend 2 1 \"a\" \"x\"\n";
-    let script = format!(in alloc; "{OPENING}{sends}")?;
-    let written = format!(in alloc; "{OPENED}refused 10\nrefused 11\nok\nrefused 16\n")?;
-    expect_play(&rt, script.as_str(), 4_096, &NEVER, written.as_str(), 0)
 }
 
 #[test]

@@ -1,7 +1,7 @@
 //! Each public call once, with ample memory, and worked values.
 use super::*;
 use chat_model::{
-    Answer, ChannelId, Counts, DealNo, Failed, List, MessageId, Refusal, Request, UserId,
+    Answer, ChannelId, Counts, DealNo, Failed, GroupId, List, MessageId, Refusal, Request, UserId,
 };
 use office::MailAnswer;
 use std::process::Abort;
@@ -72,6 +72,7 @@ fn replies_have_their_texts(rt: HostRuntime) -> Result<(), Fail> {
         Reply::Answer(Answer::Channel(ChannelId(1))),
         "channel 1\n",
     )?;
+    expect_text(&rt, Reply::Answer(Answer::Group(GroupId(1))), "group 1\n")?;
     expect_text(&rt, Reply::Answer(Answer::Done), "ok\n")?;
     expect_text(&rt, Reply::Answer(sent), "sent 1 deal 0\n")?;
     expect_text(&rt, Reply::Mail(mailed), "mailed 2 entries=1 dropped=0\n")?;
@@ -82,6 +83,12 @@ fn replies_have_their_texts(rt: HostRuntime) -> Result<(), Fail> {
     )?;
     expect_text(&rt, Reply::Mail(MailAnswer::NotDue(None)), "not due -\n")?;
     expect_text(&rt, Reply::Refused(Refusal::NoUser), "refused 10\n")?;
+    expect_text(
+        &rt,
+        Reply::Refused(Refusal::TooMany { limit: 10_000 }),
+        "refused 23 limit 10000\n",
+    )?;
+    expect_text(&rt, Reply::Refused(Refusal::BadName), "refused 25\n")?;
     expect_text(&rt, Reply::KeeperFault, "fault keeper\n")?;
     expect_text(&rt, Reply::OutOfMemory, "out of memory\n")
 }
@@ -164,7 +171,11 @@ fn bad_lines_have_their_columns(rt: HostRuntime) -> Result<(), Fail> {
     expect_bad(&rt, b" # x\n", 2);
     expect_bad(&rt, b"user \"\xff\"\n", 7);
     expect_bad(&rt, b"sub 1 2 yes\n", 9);
-    expect_bad(&rt, b"send 1 1 \"a\" \"`x`\"\n", 14);
+    expect_bad(&rt, b"group \"ops\" 2,\n", 13);
+    expect_bad(&rt, b"group \"ops\"\n", 12);
+    expect_bad(&rt, b"group \"ops\" 1, 2\n", 13);
+    expect_bad(&rt, b"member 1 2\n", 11);
+    expect_bad(&rt, b"member 1 2 on off\n", 15);
     expect_bad(&rt, b"audit now\n", 7);
     Ok(())
 }
@@ -226,4 +237,30 @@ fn a_request_is_read(rt: HostRuntime) -> Result<(), Fail> {
         _ => panic!(rt; "the line was not read"),
     }
     Ok(())
+}
+
+#[test]
+fn a_group_is_read_with_its_list_as_written(rt: HostRuntime) -> Result<(), Fail> {
+    match read_line(rt.alloc(), b"group \"ops\" 2,1,2\n") {
+        Ok(Line::Asked(Request::AddGroup { name, members })) => {
+            assert_eq!(rt; name.as_str(), "ops");
+            let written = [UserId(2), UserId(1), UserId(2)];
+            assert_eq!(rt; members.as_slice(), written.as_slice());
+            Ok(())
+        }
+        _ => panic!(rt; "the line was not read"),
+    }
+}
+
+#[test]
+fn a_membership_is_read(rt: HostRuntime) -> Result<(), Fail> {
+    match read_line(rt.alloc(), b"member 3 2 off\n") {
+        Ok(Line::Asked(Request::Member { group, user, on })) => {
+            assert_eq!(rt; group, GroupId(3));
+            assert_eq!(rt; user, UserId(2));
+            assert_eq!(rt; on, false);
+            Ok(())
+        }
+        _ => panic!(rt; "the line was not read"),
+    }
 }

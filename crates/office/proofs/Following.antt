@@ -1,8 +1,8 @@
 -- Tables that stand for a journal prepare what the journal's definitions say of its next event.
-use Rattle.std.proofs.Common.{◌≡◌, ℕ, suc, ◌+◌, true, false, ◌&&◌, ◌==◌, eqb, not, List, [], ◌∷◌, ◌++◌, length, map, refl, sym, ap, ◌∙◌, arith, length-append}
-use Rattle.std.specs.Prelude.{Option, Some, None, option_map, unwrap_or, filter, if◌then◌else◌}
+use Rattle.std.proofs.Common.{◌≡◌, ℕ, suc, ◌+◌, Bool, true, false, ◌&&◌, ◌||◌, ◌==◌, eqb, cond, not, List, [], ◌∷◌, ◌++◌, length, map, refl, sym, ap, ◌∙◌, arith, length-append}
+use Rattle.std.specs.Prelude.{Option, Some, None, option_map, unwrap_or, nat_lt, filter, fold, if◌then◌else◌}
 use Rattle.std.specs.Option.{option_map_or}
-use Rattle.std.specs.List.{filter_map, flat_map, list_any, cons_option}
+use Rattle.std.specs.List.{filter_map, flat_map, list_any, reduce, cons_option}
 use Rattle.std.proofs.lemmas.List.{length-map, map-append, append-nil}
 use Rattle.std.proofs.Math.Bool.{and-true, and-false}
 use Rattle.std.proofs.lemmas.Bool.Decides.{nat_tests}
@@ -12,10 +12,15 @@ use Rattle.chat_model.specs.declared.event.Event.{Event}
 use Rattle.chat_model.specs.declared.event.Event.TheVariants.{Restart, Asked, MailTurn}
 use Rattle.chat_model.specs.declared.request.Request.{Request}
 use Rattle.chat_model.specs.declared.request.Answer.TheVariants as answer
-use Rattle.chat_model.specs.declared.request.Request.TheVariants.{AddUser, AddChannel, Subscribe, Send}
+use Rattle.chat_model.specs.declared.request.Request.TheVariants.{AddUser, AddGroup, Member, AddChannel, Subscribe, Send}
 use Rattle.chat_model.specs.declared.ids.UserId.{UserId}
 use Rattle.chat_model.specs.declared.ids.ChannelId.{ChannelId}
+use Rattle.chat_model.specs.declared.ids.GroupId.{GroupId}
+use Rattle.chat_model.specs.declared.entry.Entry.{Entry}
+use Rattle.chat_model.specs.declared.entry.Entry.TheVariants as entry
+use Rattle.chat_model.specs.declared.entry.Conversation.TheVariants as conversation
 use Rattle.chat_model.specs.declared.mentions.UserName.{UserName}
+use Rattle.chat_model.specs.declared.mentions.GroupName.{GroupName}
 use Rattle.chat_model.specs.declared.row.Row.TheVariants as row
 use Rattle.chat_model.specs.declared.row.RowChange.TheVariants.{Put, Remove}
 use Rattle.chat_model.specs.declared.trigger.Trigger.{Trigger}
@@ -24,25 +29,25 @@ use Rattle.chat_model.specs.declared.trigger.Way.{Way}
 use Rattle.chat_model.specs.declared.trigger.Way.TheVariants.{Mail, Push}
 use Rattle.chat_model.specs.Settings.{default_settings}
 use Rattle.notice_ledger.specs.Journal.{occurrence}
-use Rattle.notice_ledger.specs.Values.{numbered, Person, people, named_from, channels, user_names, users, is_bot, messages, SentMessage, subscribed, deal_count}
-use Rattle.notice_ledger.specs.Triggers.{trigger, is_mentioned}
+use Rattle.notice_ledger.specs.Values.{numbered, Person, people, named_from, user_name, named_groups_from, groups, is_one_of, is_member, member_count, channels, channel_name, user_names, users, is_bot, messages, SentMessage, subscribed, deal_count}
+use Rattle.notice_ledger.specs.Triggers.{mentions_of, is_mentioned, smaller, came_by, trigger}
 use Rattle.notice_ledger.specs.Owed.{Notice, same_way, waiting, notice_of, owed_by, is_turn_of, is_mail_turn_of}
 use Rattle.notice_ledger.specs.Due.{batch_rows}
-use Rattle.notice_ledger.specs.Outbox.{outbox, mail_entry, mail_entries}
+use Rattle.notice_ledger.specs.Outbox.{outbox, named_group, mail_entry, mail_entries}
 use Rattle.notice_ledger.specs.Rows.{outbox_rows_from, waiting_row}
 use Rattle.notice_ledger.proofs.Lists.{filter_none}
 use Rattle.notice_ledger.proofs.Appended.{outbox-append}
 use Rattle.notice_ledger.proofs.Ascending.{AllByRecursion-filter}
 use Rattle.notice_ledger.proofs.Batches.{is_mail_of, filter_same, by_message-batch_rows, batch_rows-waiting}
 use Rattle.notice_ledger.proofs.Sent.{IsOfMessage, waiting-messages, deal_count-messages}
-use Rattle.office.specs.declared.tables.Channel.{Channel}
 use Rattle.office.specs.declared.tables.Waiting.{Waiting}
 use Rattle.office.specs.declared.tables.Tables.{Tables}
 use Rattle.office.specs.Changes.{is_turn, notice_key, changes}
-use Rattle.office.specs.Tables.{StandsFor, message_kept, notice_kept, is_mail_to, entry_from, entry_in, entries_in, answer_in}
+use Rattle.office.specs.Tables.{StandsFor, message_kept, notice_kept, named_group_in, is_mail_to, entry_from, entry_in, entries_in, answer_in}
 use Rattle.office.specs.Office.{answer_of}
-use Rattle.office.specs.Prepared.{notice_row, key_of_notice, is_bot_in, notifies, next_notice, new_notices, mentioned_in, changes_in}
-use Rattle.office.proofs.Standing.{numbered-map, filter-map, filter_map-map, filter_map-given, name_in-user_name, channel_name_in-channel_name, ids-user_names}
+use Rattle.office.specs.Prepared.{notice_row, key_of_notice, is_bot_in, is_mentioned_in, notifies, smaller_in, via_in, next_notice, new_notices, mentions_in, changes_in}
+use Rattle.office.specs.UserSets.{has_in, size_in}
+use Rattle.office.proofs.Standing.{numbered-map, filter-map, filter_map-map, filter_map-given, name_in-user_name, channel_name_in-channel_name, named_group_in-named_group, size_in-member_count, ids-user_names}
 
 eqb-swap : (a b : ℕ) → eqb a b ≡ eqb b a
 eqb-swap a b = grind (arith, nat_tests)
@@ -61,15 +66,52 @@ map-flat_map : {A B C : Type 0} (f : B → C) (g : A → List B) (xs : List A) �
 map-flat_map f g [] = refl
 map-flat_map f g (x ∷ xs) = map-append f (g x) (flat_map g xs) ∙ ap (λ ys. map f (g x) ++ ys) (map-flat_map f g xs)
 
+any_same : (p q : GroupId → Bool) → ((g : GroupId) → p g ≡ q g) → (gs : List GroupId) → list_any p gs ≡ list_any q gs
+any_same p q same [] = refl
+any_same p q same (g ∷ gs) = ap (λ b. b || list_any p gs) (same g) ∙ ap (λ b. q g || b) (any_same p q same gs)
+
+filter_same_groups : (p q : GroupId → Bool) → ((g : GroupId) → p g ≡ q g) → (gs : List GroupId) → filter p gs ≡ filter q gs
+filter_same_groups p q same [] = refl
+filter_same_groups p q same (g ∷ gs) = ap (λ b. cond b (g ∷ filter p gs) (filter p gs)) (same g) ∙ ap (λ hs. cond (q g) (g ∷ hs) hs) (filter_same_groups p q same gs)
+
+fold-same : (f h : GroupId → GroupId → GroupId) → ((a b : GroupId) → f a b ≡ h a b) → (a : GroupId) (gs : List GroupId) → fold f a gs ≡ fold h a gs
+fold-same f h same a [] = refl
+fold-same f h same a (g ∷ gs) = ap (λ b. fold f b gs) (same a g) ∙ fold-same f h same (h a g) gs
+
+reduce-same : (f h : GroupId → GroupId → GroupId) → ((a b : GroupId) → f a b ≡ h a b) → (gs : List GroupId) → reduce f gs ≡ reduce h gs
+reduce-same f h same [] = refl
+reduce-same f h same (g ∷ gs) = ap Some (fold-same f h same g gs)
+
+option_same : {A B : Type 0} (f h : A → B) → ((a : A) → f a ≡ h a) → (o : Option A) → option_map f o ≡ option_map h o
+option_same f h same None = refl
+option_same f h same (Some a) = ap Some (same a)
+
 -- ---- entries
 
 module _ (t : Tables) (j : List Stamped) (stands : StandsFor t j) where
+  -- an entry with this group
+  abbrev with_via : ℕ → Notice → Option GroupName → Entry
+  with_via at n via =
+      entry.Mail n.user (user_name j n.user) at (conversation.Channel n.message.channel (channel_name j n.message.channel) n.message.topic) (record {
+        message = n.number;
+        sender = n.message.sender;
+        sender_name = user_name j n.message.sender;
+        trigger = n.trigger;
+        via = via;
+        text = n.message.text;
+      } ∷ [])
+
+  entry_from-mail_entry : (at : ℕ) (n : Notice) → entry_from t at (notice_kept n) (message_kept n.message) ≡ mail_entry j at n
+  entry_from-mail_entry at n =
+      rw (name_in-user_name t j stands n.user, name_in-user_name t j stands n.message.sender, channel_name_in-channel_name t j stands n.message.channel)
+      (ap (with_via at n) (option_same (named_group_in t) (named_group j) (named_group_in-named_group t j stands) (came_by n.message n.user)))
+
   -- a waiting notice makes its entry
   entry_in-mail_entry : (at : ℕ) (n : Notice) → IsOfMessage j n → entry_in t at (notice_kept n) ≡ Some (mail_entry j at n)
   entry_in-mail_entry at n of =
       ap (λ ms. option_map (entry_from t at (notice_kept n)) (numbered n.number.0 ms)) stands.messages
       ∙ (ap (option_map (entry_from t at (notice_kept n))) (numbered-map message_kept n.number.0 (messages j) ∙ ap (option_map message_kept) of)
-      ∙ ap Some (rw (name_in-user_name t j stands n.user, name_in-user_name t j stands n.message.sender, channel_name_in-channel_name t j stands n.message.channel)))
+      ∙ ap Some (entry_from-mail_entry at n))
 
   -- the entries of a user's mail turn
   pub entries_in-mail_entries : (at : ℕ) (u : UserId) → entries_in t at u ≡ mail_entries j at u
@@ -82,9 +124,9 @@ module _ (t : Tables) (j : List Stamped) (stands : StandsFor t j) where
 
   -- ---- a send
 
-  mentioned_in-mentions : (text : List ℕ) → mentioned_in t text ≡ (mentions text (user_names j) []).users
-  unfolding mentioned_in
-  mentioned_in-mentions text = ap (λ ns. (mentions text ns []).users) stands.names
+  mentions_in-mentions_of : (text : List ℕ) → mentions_in t text ≡ mentions_of j text
+  unfolding mentions_in mentions_of
+  mentions_in-mentions_of text = ap (λ ns. mentions text ns t.groups.items) stands.names ∙ ap (λ gs. mentions text (user_names j) gs) stands.groups
 
   is_bot_in-is_bot : (u : UserId) → is_bot_in t u ≡ is_bot j u
   is_bot_in-is_bot u =
@@ -95,23 +137,42 @@ module _ (t : Tables) (j : List Stamped) (stands : StandsFor t j) where
       unwrap_bot None = refl
       unwrap_bot (Some p) = refl
 
+  -- who is mentioned
+  is_mentioned_in-is_mentioned : (text : List ℕ) (u : UserId) → is_mentioned_in t (mentions_in t text) u ≡ is_mentioned j text u
+  is_mentioned_in-is_mentioned text u =
+      ap (λ m. is_mentioned_in t m u) (mentions_in-mentions_of text)
+      ∙ ap (λ b. is_one_of (mentions_of j text).users u || b) (any_same (λ g. has_in t.members.items g.0 u) (λ g. is_member j g u) (λ g. stands.members g u) (mentions_of j text).groups)
+
+  -- by which group
+  via_in-came_by : (sender : UserId) (channel : ChannelId) (topic text : List ℕ) (u : UserId) → via_in t (mentions_in t text) u ≡ came_by (record { past = j; sender = sender; channel = channel; topic = topic; text = text }) u
+  unfolding came_by
+  via_in-came_by sender channel topic text u =
+      ap (λ m. via_in t m u) (mentions_in-mentions_of text)
+      ∙ ap (λ (o : Option GroupId). if is_one_of (mentions_of j text).users u then None else o)
+      (ap (reduce (smaller_in t)) (filter_same_groups (λ g. has_in t.members.items g.0 u) (λ g. is_member j g u) (λ g. stands.members g u) (mentions_of j text).groups)
+      ∙ reduce-same (smaller_in t) (smaller j) smaller_same (filter (λ g. is_member j g u) (mentions_of j text).groups))
+    where
+      smaller_same : (g h : GroupId) → smaller_in t g h ≡ smaller j g h
+      smaller_same g h =
+          ap (λ n. if nat_lt n (size_in t.members.items g.0) then h else g) (size_in-member_count t j stands h)
+          ∙ ap (λ n. if nat_lt (member_count j h) n then h else g) (size_in-member_count t j stands g)
+
   -- who is notified of a send
-  notifies-recipients : (sender : UserId) (channel : ChannelId) (text : List ℕ) (u : UserId) → notifies t sender channel (mentioned_in t text) u
-      ≡ (subscribed j u channel && not (u.0 == sender.0) && not (is_bot j u) && list_any (λ v. v.0 == u.0) (mentions text (user_names j) []).users)
+  notifies-recipients : (sender : UserId) (channel : ChannelId) (text : List ℕ) (u : UserId) → notifies t sender channel (mentions_in t text) u
+      ≡ (subscribed j u channel && not (u.0 == sender.0) && not (is_bot j u) && is_mentioned j text u)
   notifies-recipients sender channel text u =
-      let among = λ (us : List UserId). list_any (λ v. v.0 == u.0) us in
-      ap (λ b. b && not (u.0 == sender.0) && not (is_bot_in t u) && among (mentioned_in t text)) (stands.subscribers u channel)
-      ∙ (ap (λ b. subscribed j u channel && not (u.0 == sender.0) && not b && among (mentioned_in t text)) (is_bot_in-is_bot u)
-      ∙ ap (λ us. subscribed j u channel && not (u.0 == sender.0) && not (is_bot j u) && among us) (mentioned_in-mentions text))
+      ap (λ b. b && not (u.0 == sender.0) && not (is_bot_in t u) && is_mentioned_in t (mentions_in t text) u) (stands.subscribers channel u)
+      ∙ (ap (λ b. subscribed j u channel && not (u.0 == sender.0) && not b && is_mentioned_in t (mentions_in t text) u) (is_bot_in-is_bot u)
+      ∙ ap (λ b. subscribed j u channel && not (u.0 == sender.0) && not (is_bot j u) && b) (is_mentioned_in-is_mentioned text u))
 
   -- the trigger is a mention by either way
-  trigger-notifies : (sender : UserId) (channel : ChannelId) (topic text : List ℕ) (u : UserId) (w : Way) → trigger (record { past = j; sender = sender; channel = channel; topic = topic; text = text }) u w ≡ (if notifies t sender channel (mentioned_in t text) u then Some Mention else None)
-  unfolding trigger is_mentioned
+  trigger-notifies : (sender : UserId) (channel : ChannelId) (topic text : List ℕ) (u : UserId) (w : Way) → trigger (record { past = j; sender = sender; channel = channel; topic = topic; text = text }) u w ≡ (if notifies t sender channel (mentions_in t text) u then Some Mention else None)
+  unfolding trigger
   trigger-notifies sender channel topic text u Mail =
-      ap (λ b. if subscribed j u channel && not (u.0 == sender.0) && not (is_bot j u) && b then Some Mention else None) (and-true (list_any (λ v. v.0 == u.0) (mentions text (user_names j) []).users))
+      ap (λ b. if subscribed j u channel && not (u.0 == sender.0) && not (is_bot j u) && b then Some Mention else None) (and-true (is_mentioned j text u))
       ∙ ap (λ b. if b then Some Mention else None) (sym (notifies-recipients sender channel text u))
   trigger-notifies sender channel topic text u Push =
-      ap (λ b. if subscribed j u channel && not (u.0 == sender.0) && not (is_bot j u) && b then Some Mention else None) (and-true (list_any (λ v. v.0 == u.0) (mentions text (user_names j) []).users))
+      ap (λ b. if subscribed j u channel && not (u.0 == sender.0) && not (is_bot j u) && b then Some Mention else None) (and-true (is_mentioned j text u))
       ∙ ap (λ b. if b then Some Mention else None) (sym (notifies-recipients sender channel text u))
 
   messages_long : length t.messages.items ≡ length (messages j)
@@ -121,7 +182,7 @@ module _ (t : Tables) (j : List Stamped) (stands : StandsFor t j) where
   owed_to : (at : ℕ) (sender : UserId) (channel : ChannelId) (topic text : List ℕ) (u : UserId) →
       let s : Stamped = record { at = at; event = Asked (Send sender channel topic text) } in
       let m : SentMessage = record { past = j; sender = sender; channel = channel; topic = topic; text = text } in
-      map notice_kept (filter_map (notice_of (occurrence j s) m u) (Mail ∷ Push ∷ [])) ≡ (if notifies t sender channel (mentioned_in t text) u then next_notice t at u Mail ∷ next_notice t at u Push ∷ [] else [])
+      map notice_kept (filter_map (notice_of (occurrence j s) m u) (Mail ∷ Push ∷ [])) ≡ (if notifies t sender channel (mentions_in t text) u then next_notice t at (mentions_in t text) u Mail ∷ next_notice t at (mentions_in t text) u Push ∷ [] else [])
   owed_to at sender channel topic text u =
       let s : Stamped = record { at = at; event = Asked (Send sender channel topic text) } in
       let m : SentMessage = record { past = j; sender = sender; channel = channel; topic = topic; text = text } in
@@ -135,25 +196,27 @@ module _ (t : Tables) (j : List Stamped) (stands : StandsFor t j) where
         owing = occurrence j s;
       } in n) o in
       ap (λ o. map notice_kept (cons_option (one Mail o) (cons_option (one Push (trigger m u Push)) []))) (trigger-notifies sender channel topic text u Mail)
-      ∙ (ap (λ o. map notice_kept (cons_option (one Mail (if notifies t sender channel (mentioned_in t text) u then Some Mention else None)) (cons_option (one Push o) []))) (trigger-notifies sender channel topic text u Push)
-      ∙ (elim (notifies t sender channel (mentioned_in t text) u) as (λ b. map notice_kept (cons_option (one Mail (if b then Some Mention else None)) (cons_option (one Push (if b then Some Mention else None)) [])) ≡ (if b then next_notice t at u Mail ∷ next_notice t at u Push ∷ [] else [])) [
-        | true ↦ ap (λ n. both (n + 1) (deal_count j)) (sym messages_long) ∙ ap (both (length t.messages.items + 1)) (deal_count-messages j ∙ sym messages_long)
+      ∙ (ap (λ o. map notice_kept (cons_option (one Mail (if notifies t sender channel (mentions_in t text) u then Some Mention else None)) (cons_option (one Push o) []))) (trigger-notifies sender channel topic text u Push)
+      ∙ (elim (notifies t sender channel (mentions_in t text) u) as (λ b. map notice_kept (cons_option (one Mail (if b then Some Mention else None)) (cons_option (one Push (if b then Some Mention else None)) [])) ≡ (if b then next_notice t at (mentions_in t text) u Mail ∷ next_notice t at (mentions_in t text) u Push ∷ [] else [])) [
+        | true ↦ ap (both (length (messages j) + 1) (deal_count j)) (sym (via_in-came_by sender channel topic text u))
+            ∙ (ap (λ n. both (n + 1) (deal_count j) (via_in t (mentions_in t text) u)) (sym messages_long)
+            ∙ ap (λ d. both (length t.messages.items + 1) d (via_in t (mentions_in t text) u)) (deal_count-messages j ∙ sym messages_long))
         | false ↦ refl
       ]))
     where
-      both : ℕ → ℕ → List Waiting
-      both number deal =
-          record { user = u; message = record { 0 = number }; way = Mail; trigger = Mention; deal = record { 0 = deal }; ready = at }
-          ∷ record { user = u; message = record { 0 = number }; way = Push; trigger = Mention; deal = record { 0 = deal }; ready = at } ∷ []
+      both : ℕ → ℕ → Option GroupId → List Waiting
+      both number deal via =
+          record { user = u; message = record { 0 = number }; way = Mail; trigger = Mention; via = via; deal = record { 0 = deal }; ready = at }
+          ∷ record { user = u; message = record { 0 = number }; way = Push; trigger = Mention; via = via; deal = record { 0 = deal }; ready = at } ∷ []
 
   -- what a send at a stamp owes
   pub new_notices-owed : (at : ℕ) (sender : UserId) (channel : ChannelId) (topic text : List ℕ) →
       let s : Stamped = record { at = at; event = Asked (Send sender channel topic text) } in
-      new_notices t at sender channel (mentioned_in t text) ≡ map notice_kept (owed_by (occurrence j s))
+      new_notices t at sender channel (mentions_in t text) ≡ map notice_kept (owed_by (occurrence j s))
   new_notices-owed at sender channel topic text =
       let s : Stamped = record { at = at; event = Asked (Send sender channel topic text) } in
       let m : SentMessage = record { past = j; sender = sender; channel = channel; topic = topic; text = text } in
-      let to = λ (u : UserId). if notifies t sender channel (mentioned_in t text) u then next_notice t at u Mail ∷ next_notice t at u Push ∷ [] else [] in
+      let to = λ (u : UserId). if notifies t sender channel (mentions_in t text) u then next_notice t at (mentions_in t text) u Mail ∷ next_notice t at (mentions_in t text) u Push ∷ [] else [] in
       sym (flat_map-map to (λ (n : UserName). n.id) t.names.items)
       ∙ (ap (flat_map to) (ap (map (λ (n : UserName). n.id)) stands.names ∙ ids-user_names j)
       ∙ (sym (flat_map-same (λ u. map notice_kept (filter_map (notice_of (occurrence j s) m u) (Mail ∷ Push ∷ []))) to (owed_to at sender channel topic text) (users j))
@@ -167,6 +230,13 @@ module _ (t : Tables) (j : List Stamped) (stands : StandsFor t j) where
       long : (n : ℕ) (ps : List Person) → length (named_from n ps) ≡ length ps
       long n [] = refl
       long n (p ∷ ps) = ap suc (long (n + 1) ps)
+
+  pub groups_long : length t.groups.items ≡ length (groups j)
+  groups_long = ap length stands.groups ∙ long 1 (groups j)
+    where
+      long : (n : ℕ) (names : List (List ℕ)) → length (named_groups_from n names) ≡ length names
+      long n [] = refl
+      long n (name ∷ names) = ap suc (long (n + 1) names)
 
   no_turns : (e : Event) → ((u : UserId) → is_mail_turn_of u e ≡ false) → filter (is_turn e) (waiting j) ≡ []
   no_turns e never = filter_none (is_turn e) (λ n. never_turn n.user n.way) (waiting j)
@@ -203,11 +273,13 @@ module _ (t : Tables) (j : List Stamped) (stands : StandsFor t j) where
   changes_in-changes at (Asked (AddUser name bot)) =
       ap (λ n. Put (row.User (record { 0 = n + 1 }) name bot default_settings) ∷ []) names_long
       ∙ ap (λ cs. Put (row.User (record { 0 = length (people j) + 1 }) name bot default_settings) ∷ cs) (sym (no_pending (Asked (AddUser name bot)) (λ u. refl) []))
+  changes_in-changes at (Asked (AddGroup name members)) = sym (no_pending (Asked (AddGroup name members)) (λ u. refl) [])
+  changes_in-changes at (Asked (Member group user on)) = sym (no_pending (Asked (Member group user on)) (λ u. refl) [])
   changes_in-changes at (Asked (AddChannel name)) = sym (no_pending (Asked (AddChannel name)) (λ u. refl) [])
   changes_in-changes at (Asked (Subscribe user channel on)) = sym (no_pending (Asked (Subscribe user channel on)) (λ u. refl) [])
   changes_in-changes at (Asked (Send sender channel topic text)) =
       let s : Stamped = record { at = at; event = Asked (Send sender channel topic text) } in
-      ap (λ n. Put (row.Message (record { 0 = n + 1 }) sender text false) ∷ map (λ w. Put (notice_row w)) (new_notices t at sender channel (mentioned_in t text))) messages_long
+      ap (λ n. Put (row.Message (record { 0 = n + 1 }) sender text false) ∷ map (λ w. Put (notice_row w)) (new_notices t at sender channel (mentions_in t text))) messages_long
       ∙ ap (λ cs. Put (row.Message (record { 0 = length (messages j) + 1 }) sender text false) ∷ cs)
       (ap (map (λ w. Put (notice_row w))) (new_notices-owed at sender channel topic text)
       ∙ (rows_of_notices (owed_by (occurrence j s)) ∙ sym (no_pending (Asked (Send sender channel topic text)) (λ u. refl) (owed_by (occurrence j s)))))
@@ -220,10 +292,12 @@ module _ (t : Tables) (j : List Stamped) (stands : StandsFor t j) where
   -- ---- answers
 
   channels_long : length t.channels.items ≡ length (channels j)
-  channels_long = sym (length-map t.channels.items (λ (c : Channel). c.name)) ∙ ap length stands.channels
+  channels_long = ap length stands.channels
 
   pub answer_in-answer_of : (r : Request) → answer_in t r ≡ answer_of j r
   answer_in-answer_of (AddUser name bot) = ap (λ n. answer.User (record { 0 = n + 1 })) names_long
+  answer_in-answer_of (AddGroup name members) = ap (λ n. answer.Group (record { 0 = n + 1 })) groups_long
+  answer_in-answer_of (Member group user on) = refl
   answer_in-answer_of (AddChannel name) = ap (λ n. answer.Channel (record { 0 = n + 1 })) channels_long
   answer_in-answer_of (Subscribe user channel on) = refl
   answer_in-answer_of (Send sender channel topic text) =

@@ -4,7 +4,8 @@ pub mod TableSteps
 pub mod Numbered
 pub mod Standing
 pub mod Following
-pub mod Subscribed
+pub mod UserSets
+pub mod SetSizes
 pub mod After
 pub mod Offices
 pub mod Conserved

@@ -1,12 +1,19 @@
 -- What keeps an office one: the same contents, and a lawful event that was kept and followed.
-use Rattle.std.proofs.Common.{◌≡◌, Bool, true, false, ◌&&◌, List, [], ◌∷◌, ◌++◌, Option, Some, None, sym, ap, ◌∙◌}
+use Rattle.std.proofs.Common.{◌≡◌, ℕ, Bool, true, false, ◌&&◌, List, [], ◌∷◌, ◌++◌, Option, Some, None, max, refl, sym, ap, ◌∙◌, arith}
 use Rattle.std.specs.Prelude.{IfSome, option_map, nat_le}
+use Rattle.std.proofs.lemmas.Bool.Decides.{nat_tests}
 use Rattle.chat_model.specs.declared.event.Stamped.{Stamped}
+use Rattle.chat_model.specs.declared.event.Event.TheVariants.{Asked}
+use Rattle.chat_model.specs.declared.request.Request.{Request}
+use Rattle.chat_model.specs.declared.request.Refusal.{Refusal}
 use Rattle.chat_model.specs.declared.row.RowChange.{RowChange}
 use Rattle.chat_model.specs.Rows.{changed_all}
 use Rattle.keeper.specs.declared.keeper.Kept.{Kept}
 use Rattle.keeper.specs.Kept.{committed}
-use Rattle.notice_ledger.specs.Journal.{last_stamp}
+use Rattle.notice_ledger.specs.Journal.{stamp, last_stamp}
+use Rattle.notice_ledger.specs.Refusals.{refusal}
+use Rattle.notice_ledger.specs.InOrder.{in_order}
+use Rattle.notice_ledger.proofs.InOrder.{in_order-may_stand}
 use Rattle.notice_ledger.specs.Rows.{rows}
 use Rattle.notice_ledger.specs.Lawful.{is_lawful_after, may_stand}
 use Rattle.notice_ledger.proofs.LawfulLemmas.{IsLawful-nil, IsLawful-append}
@@ -15,7 +22,7 @@ use Rattle.office.specs.declared.prepared.Effect.{Effect}
 use Rattle.office.specs.declared.prepared.Effect.TheVariants as effect
 use Rattle.office.specs.Tables.{StandsFor}
 use Rattle.office.specs.Prepared.{changes_in, Fits}
-use Rattle.office.specs.Applied.{IsApplied, names_after, bots_after, rooms_after, messages_after, waiting_after, outbox_after}
+use Rattle.office.specs.Applied.{IsApplied, names_after, bots_after, groups_after, members_after, channels_after, subscribers_after, messages_after, waiting_after, outbox_after}
 use Rattle.office.specs.Office.{IsOffice, KeptStandsFor}
 use Rattle.office.proofs.RowsAfter.{rows-nil, rows-append}
 use Rattle.office.proofs.Following.{changes_in-changes}
@@ -33,7 +40,10 @@ through : (old mid new : Tables) (e : Effect) → IsApplied old mid effect.Nothi
 through old mid new e reserved applied = record {
   names = applied.names ∙ ap (names_after e) reserved.names;
   bots = applied.bots ∙ ap (bots_after e) reserved.bots;
-  rooms = applied.rooms ∙ ap (rooms_after e) reserved.rooms;
+  groups = applied.groups ∙ ap (groups_after e) reserved.groups;
+  members = applied.members ∙ ap (members_after e) reserved.members;
+  channels = applied.channels ∙ ap (channels_after e) reserved.channels;
+  subscribers = applied.subscribers ∙ ap (subscribers_after e) reserved.subscribers;
   messages = applied.messages ∙ ap (messages_after e) reserved.messages;
   waiting = applied.waiting ∙ ap (waiting_after e) reserved.waiting;
   outbox = applied.outbox ∙ ap (outbox_after e) reserved.outbox;
@@ -71,3 +81,17 @@ empty_office told loaded t stands same no_event no_row = record {
   tables = stands;
   kept = empty_kept told loaded same no_event no_row;
 }
+
+-- a request that is not refused is lawful once its lists are in order, at a stamp that is not below the last one
+pub asked_lawful : (j : List Stamped) (now at : ℕ) (r : Request) → refusal j r ≡ None → at ≡ stamp j now → is_lawful_after j (record { at = at; event = Asked (in_order r) }) ≡ true
+asked_lawful j now at r granted stamped = both (nat_le (last_stamp j) at) (may_stand j at (Asked (in_order r))) (not_below (last_stamp j) now at stamped) (in_order-may_stand j at r granted)
+  where
+    both : (a b : Bool) → a ≡ true → b ≡ true → (a && b) ≡ true
+    both a b h k = rw (h, k)
+
+    not_below : (last now at : ℕ) → at ≡ max now last → nat_le last at ≡ true
+    not_below last now at e = grind (arith, nat_tests)
+
+pub no_refusal : (o : Option Refusal) → ((n : Refusal) → o ≡ Some n → ⊥) → o ≡ None
+no_refusal None h = refl
+no_refusal (Some n) h = absurd (h n refl)

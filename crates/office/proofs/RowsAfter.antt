@@ -9,7 +9,7 @@ use Rattle.std.proofs.lemmas.List.{map-append}
 use Rattle.chat_model.specs.declared.event.Stamped.{Stamped}
 use Rattle.chat_model.specs.declared.event.Event.{Event}
 use Rattle.chat_model.specs.declared.event.Event.TheVariants.{Restart, Asked, MailTurn}
-use Rattle.chat_model.specs.declared.request.Request.TheVariants.{AddUser, AddChannel, Subscribe, Send}
+use Rattle.chat_model.specs.declared.request.Request.TheVariants.{AddUser, AddGroup, Member, AddChannel, Subscribe, Send}
 use Rattle.chat_model.specs.declared.entry.Entry.{Entry}
 use Rattle.chat_model.specs.declared.row.Row.{Row}
 use Rattle.chat_model.specs.declared.row.Row.TheVariants as row
@@ -129,6 +129,8 @@ outbox_are n (e ∷ es) = (refl, outbox_are (n + 1) es)
 new_users_are : (j : List Stamped) (e : Event) → AreOf 0 (map Put (new_user_rows j e))
 new_users_are j Restart = tt
 new_users_are j (Asked (AddUser name bot)) = (refl, tt)
+new_users_are j (Asked (AddGroup name members)) = tt
+new_users_are j (Asked (Member group user on)) = tt
 new_users_are j (Asked (AddChannel name)) = tt
 new_users_are j (Asked (Subscribe user channel on)) = tt
 new_users_are j (Asked (Send sender channel topic text)) = tt
@@ -137,6 +139,8 @@ new_users_are j (MailTurn user) = tt
 new_messages_are : (j : List Stamped) (e : Event) → AreOf 1 (map Put (new_message_rows j e))
 new_messages_are j Restart = tt
 new_messages_are j (Asked (AddUser name bot)) = tt
+new_messages_are j (Asked (AddGroup name members)) = tt
+new_messages_are j (Asked (Member group user on)) = tt
 new_messages_are j (Asked (AddChannel name)) = tt
 new_messages_are j (Asked (Subscribe user channel on)) = tt
 new_messages_are j (Asked (Send sender channel topic text)) = (refl, tt)
@@ -174,6 +178,8 @@ outbox_rows-append n (e ∷ es) fs =
 new_users : (j : List Stamped) (s : Stamped) (e : Event) → user_rows_from (j ++ s ∷ []) (1 + length (people j)) (option_to_list (person_of e)) ≡ new_user_rows j e
 new_users j s Restart = refl
 new_users j s (Asked (AddUser name bot)) = ap (λ n. row.User (record { 0 = n }) name bot default_settings ∷ []) (one_more (length (people j)))
+new_users j s (Asked (AddGroup name members)) = refl
+new_users j s (Asked (Member group user on)) = refl
 new_users j s (Asked (AddChannel name)) = refl
 new_users j s (Asked (Subscribe user channel on)) = refl
 new_users j s (Asked (Send sender channel topic text)) = refl
@@ -182,6 +188,8 @@ new_users j s (MailTurn user) = refl
 new_messages : (j : List Stamped) (e : Event) → message_rows_from (1 + length (messages j)) (option_to_list (sent_by j e)) ≡ new_message_rows j e
 new_messages j Restart = refl
 new_messages j (Asked (AddUser name bot)) = refl
+new_messages j (Asked (AddGroup name members)) = refl
+new_messages j (Asked (Member group user on)) = refl
 new_messages j (Asked (AddChannel name)) = refl
 new_messages j (Asked (Subscribe user channel on)) = refl
 new_messages j (Asked (Send sender channel topic text)) = ap (λ n. row.Message (record { 0 = n }) sender text false ∷ []) (one_more (length (messages j)))

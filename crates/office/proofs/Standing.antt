@@ -1,26 +1,33 @@
 -- What look-ups in tables that stand for a journal give.
-use Rattle.std.proofs.Common.{◌≡◌, ℕ, zero, suc, ◌+◌, Bool, true, false, cond, List, [], ◌∷◌, length, map, refl, sym, ap, ◌∙◌}
-use Rattle.std.specs.Prelude.{Option, Some, None, option_map, is_some, unwrap_or, filter, find, slice_get}
+use Rattle.std.proofs.Common.{◌≡◌, ℕ, zero, suc, ◌+◌, Bool, true, false, ◌&&◌, ◌||◌, cond, not, List, [], ◌∷◌, length, map, refl, sym, ap, ◌∙◌}
+use Rattle.std.specs.Prelude.{Option, Some, None, option_map, is_some, unwrap_or, filter, find, slice_get, nat_lt, count_by}
+use Rattle.std.specs.Str.{str_eq_ignore_ascii_case}
 use Rattle.std.specs.Option.{option_map_or}
-use Rattle.std.specs.List.{reduce, filter_map, cons_option, range_with_len, AllByRecursion}
+use Rattle.std.specs.List.{list_all, list_any, reduce, filter_map, cons_option, range_with_len, AllByRecursion}
 use Rattle.std.proofs.lemmas.List.{length-map}
 use Rattle.chat_model.specs.declared.event.Stamped.{Stamped}
 use Rattle.chat_model.specs.declared.ids.UserId.{UserId}
 use Rattle.chat_model.specs.declared.ids.ChannelId.{ChannelId}
+use Rattle.chat_model.specs.declared.ids.GroupId.{GroupId}
 use Rattle.chat_model.specs.declared.mentions.UserName.{UserName}
+use Rattle.chat_model.specs.declared.mentions.GroupName.{GroupName}
 use Rattle.chat_model.specs.declared.request.Request.{Request}
-use Rattle.chat_model.specs.declared.request.Request.TheVariants.{AddUser, AddChannel, Subscribe, Send}
-use Rattle.notice_ledger.specs.Values.{numbered, Person, people, named_from, user_names, user_name, users, is_user, is_channel, channel_name}
+use Rattle.chat_model.specs.declared.request.Request.TheVariants.{AddUser, AddGroup, Member, AddChannel, Subscribe, Send}
+use Rattle.chat_model.specs.declared.request.Refusal.TheVariants.{NoUser, NoChannel, NoGroup, Exists, NotSubscribed, EmptyText, TextTooLong, TopicTooLong, TooMany}
+use Rattle.notice_ledger.specs.Values.{numbered, Person, people, named_from, user_names, user_name, users, is_user, named_groups_from, groups, group_names, group_name, is_group, is_member, member_count, channels, is_channel, channel_name, subscribed, subscriber_count}
+use Rattle.notice_ledger.specs.Outbox.{named_group}
 use Rattle.notice_ledger.specs.Owed.{waiting}
 use Rattle.notice_ledger.specs.Due.{DueUser, due, due_user, first_due, sooner}
-use Rattle.notice_ledger.specs.Lawful.{refusal}
+use Rattle.notice_ledger.specs.Refusals.{Rule, rule, first_broken, name_rules, rules_of, refusal, is_taken, is_blank, is_longer_than, longest_text, longest_topic, most_items}
 use Rattle.notice_ledger.specs.Audit.{counts_of}
 use Rattle.notice_ledger.proofs.Batches.{is_mail_of, due-waiting}
+use Rattle.notice_ledger.proofs.Sums.{sum_by_same}
 use Rattle.notice_ledger.proofs.Audited.{counts_of-waiting}
-use Rattle.office.specs.declared.tables.Channel.{Channel}
 use Rattle.office.specs.declared.tables.Waiting.{Waiting}
 use Rattle.office.specs.declared.tables.Tables.{Tables}
-use Rattle.office.specs.Tables.{StandsFor, notice_kept, has_user, has_channel, refusal_in, is_mail_to, due_in, due_user_in, first_due_in, name_in, channel_name_in, counted, counts_in}
+use Rattle.office.specs.UserSets.{has_in, size_in}
+use Rattle.office.specs.Tables.{StandsFor, notice_kept, has_user, has_group, has_channel, is_taken_group, is_taken_channel, rules_in, refusal_in, is_mail_to, due_in, due_user_in, first_due_in, name_in, channel_name_in, group_name_in, named_group_in, counted, counts_in}
+use Rattle.office.proofs.SetSizes.{size_in-counted}
 
 -- ---- lists
 
@@ -97,6 +104,24 @@ ids_from n (p ∷ ps) = ap (λ us. record { 0 = n } ∷ us) (ids_from (n + 1) ps
 pub ids-user_names : (j : List Stamped) → map (λ (u : UserName). u.id) (user_names j) ≡ users j
 ids-user_names j = ids_from 1 (people j)
 
+-- ---- groups
+
+group_at : (n : ℕ) (names : List (List ℕ)) (k : ℕ) → option_map (λ (g : GroupName). g.name) (slice_get (named_groups_from n names) k) ≡ slice_get names k
+group_at n [] k = refl
+group_at n (name ∷ names) zero = refl
+group_at n (name ∷ names) (suc k) = group_at (n + 1) names k
+
+group_numbered : (j : List Stamped) (n : ℕ) → option_map (λ (g : GroupName). g.name) (numbered n (group_names j)) ≡ numbered n (groups j)
+group_numbered j zero = refl
+group_numbered j (suc n) = group_at 1 (groups j) n
+
+taken_from : (n : ℕ) (names : List (List ℕ)) (name : List ℕ) → list_any (λ (g : GroupName). str_eq_ignore_ascii_case name g.name) (named_groups_from n names) ≡ list_any (str_eq_ignore_ascii_case name) names
+taken_from n [] name = refl
+taken_from n (other ∷ names) name = ap (λ b. str_eq_ignore_ascii_case name other || b) (taken_from (n + 1) names name)
+
+count_same : (p q : UserId → Bool) → ((u : UserId) → p u ≡ q u) → (us : List UserId) → count_by p us ≡ count_by q us
+count_same p q same us = sum_by_same (λ u. cond (p u) 1 0) (λ u. cond (q u) 1 0) (λ u. ap (λ b. cond b 1 0) (same u)) us
+
 module _ (t : Tables) (j : List Stamped) (stands : StandsFor t j) where
   pub has_user-is_user : (u : UserId) → has_user t u ≡ is_user j u
   has_user-is_user u =
@@ -109,20 +134,82 @@ module _ (t : Tables) (j : List Stamped) (stands : StandsFor t j) where
       ∙ (sym (unwrap-map (λ (n : UserName). n.name) (numbered u.0 (user_names j)) []) ∙ (ap (λ o. unwrap_or o []) (name_numbered j u.0) ∙ unwrap-map (λ (p : Person). p.name) (numbered u.0 (people j)) []))
 
   pub has_channel-is_channel : (c : ChannelId) → has_channel t c ≡ is_channel j c
-  has_channel-is_channel c =
-      sym (is_some-map (λ (ch : Channel). ch.name) (numbered c.0 t.channels.items))
-      ∙ (ap is_some (sym (numbered-map (λ (ch : Channel). ch.name) c.0 t.channels.items)) ∙ ap (λ cs. is_some (numbered c.0 cs)) stands.channels)
+  has_channel-is_channel c = ap (λ cs. is_some (numbered c.0 cs)) stands.channels
 
   pub channel_name_in-channel_name : (c : ChannelId) → channel_name_in t c ≡ channel_name j c
-  channel_name_in-channel_name c =
-      sym (unwrap-map (λ (ch : Channel). ch.name) (numbered c.0 t.channels.items) [])
-      ∙ (ap (λ o. unwrap_or o []) (sym (numbered-map (λ (ch : Channel). ch.name) c.0 t.channels.items)) ∙ ap (λ cs. unwrap_or (numbered c.0 cs) []) stands.channels)
+  channel_name_in-channel_name c = ap (λ cs. unwrap_or (numbered c.0 cs) []) stands.channels
+
+  pub has_group-is_group : (g : GroupId) → has_group t g ≡ is_group j g
+  has_group-is_group g =
+      ap (λ gs. is_some (numbered g.0 gs)) stands.groups
+      ∙ (sym (is_some-map (λ (n : GroupName). n.name) (numbered g.0 (group_names j))) ∙ ap is_some (group_numbered j g.0))
+
+  pub group_name_in-group_name : (g : GroupId) → group_name_in t g ≡ group_name j g
+  group_name_in-group_name g =
+      ap (λ gs. option_map_or (λ (n : GroupName). n.name) (numbered g.0 gs) []) stands.groups
+      ∙ (sym (unwrap-map (λ (n : GroupName). n.name) (numbered g.0 (group_names j)) []) ∙ ap (λ o. unwrap_or o []) (group_numbered j g.0))
+
+  pub named_group_in-named_group : (g : GroupId) → named_group_in t g ≡ named_group j g
+  named_group_in-named_group g = ap (λ name. record { id = g; name = name }) (group_name_in-group_name g)
+
+  -- a group is as large as the journal says
+  pub size_in-member_count : (g : GroupId) → size_in t.members.items g.0 ≡ member_count j g
+  unfolding member_count
+  size_in-member_count g =
+      size_in-counted (length (groups j)) (length (people j)) t.members.items g.0 stands.member_sets
+      ∙ count_same (λ u. has_in t.members.items g.0 u) (is_member j g) (stands.members g) (users j)
+
+  -- and a channel
+  pub size_in-subscriber_count : (c : ChannelId) → size_in t.subscribers.items c.0 ≡ subscriber_count j c
+  unfolding subscriber_count
+  size_in-subscriber_count c =
+      size_in-counted (length (channels j)) (length (people j)) t.subscribers.items c.0 stands.subscriber_sets
+      ∙ count_same (λ u. has_in t.subscribers.items c.0 u) (λ u. subscribed j u c) (stands.subscribers c) (users j)
+
+  taken_group : (name : List ℕ) → is_taken_group t name ≡ is_taken (groups j) name
+  unfolding is_taken
+  taken_group name = ap (list_any (λ (g : GroupName). str_eq_ignore_ascii_case name g.name)) stands.groups ∙ taken_from 1 (groups j) name
+
+  taken_channel : (name : List ℕ) → is_taken_channel t name ≡ is_taken (channels j) name
+  unfolding is_taken
+  taken_channel name = ap (list_any (str_eq_ignore_ascii_case name)) stands.channels
+
+  all_users : (us : List UserId) → list_all (has_user t) us ≡ list_all (is_user j) us
+  all_users [] = refl
+  all_users (u ∷ us) = ap (λ b. b && list_all (has_user t) us) (has_user-is_user u) ∙ ap (λ b. is_user j u && b) (all_users us)
+
+  rules_in-rules_of : (r : Request) → rules_in t r ≡ rules_of j r
+  rules_in-rules_of (AddUser name bot) = refl
+  rules_in-rules_of (AddGroup name members) =
+      ap (λ b. rule (not b) NoUser ∷ rule (is_taken_group t name) Exists ∷ rule (nat_lt most_items (length members)) (TooMany most_items) ∷ name_rules name) (all_users members)
+      ∙ ap (λ b. rule (not (list_all (is_user j) members)) NoUser ∷ rule b Exists ∷ rule (nat_lt most_items (length members)) (TooMany most_items) ∷ name_rules name) (taken_group name)
+  rules_in-rules_of (Member group user on) =
+      ap (λ b. rule (not b) NoUser ∷ rule (not (has_group t group)) NoGroup ∷ []) (has_user-is_user user)
+      ∙ ap (λ b. rule (not (is_user j user)) NoUser ∷ rule (not b) NoGroup ∷ []) (has_group-is_group group)
+  rules_in-rules_of (AddChannel name) = ap (λ b. rule b Exists ∷ name_rules name) (taken_channel name)
+  rules_in-rules_of (Subscribe user channel on) =
+      ap (λ b. rule (not b) NoUser ∷ rule (not (has_channel t channel)) NoChannel ∷ []) (has_user-is_user user)
+      ∙ ap (λ b. rule (not (is_user j user)) NoUser ∷ rule (not b) NoChannel ∷ []) (has_channel-is_channel channel)
+  rules_in-rules_of (Send sender channel topic text) =
+      ap (λ b. sent b (has_channel t channel) (has_in t.subscribers.items channel.0 sender) (size_in t.subscribers.items channel.0)) (has_user-is_user sender)
+      ∙ (ap (λ b. sent (is_user j sender) b (has_in t.subscribers.items channel.0 sender) (size_in t.subscribers.items channel.0)) (has_channel-is_channel channel)
+      ∙ (ap (λ b. sent (is_user j sender) (is_channel j channel) b (size_in t.subscribers.items channel.0)) (stands.subscribers channel sender)
+      ∙ ap (λ n. sent (is_user j sender) (is_channel j channel) (subscribed j sender channel) n) (size_in-subscriber_count channel)))
+    where
+      sent : Bool → Bool → Bool → ℕ → List Rule
+      sent user there member many =
+          rule (not user) NoUser
+          ∷ rule (not there) NoChannel
+          ∷ rule (not member) NotSubscribed
+          ∷ rule (is_blank text) EmptyText
+          ∷ rule (is_longer_than longest_text text) TextTooLong
+          ∷ rule (is_longer_than longest_topic topic) TopicTooLong
+          ∷ rule (nat_lt most_items many) (TooMany most_items)
+          ∷ []
 
   pub refusal_in-refusal : (r : Request) → refusal_in t r ≡ refusal j r
-  refusal_in-refusal (AddUser name bot) = refl
-  refusal_in-refusal (AddChannel name) = refl
-  refusal_in-refusal (Subscribe user channel on) = rw (has_user-is_user user, has_channel-is_channel channel)
-  refusal_in-refusal (Send sender channel topic text) = rw (has_user-is_user sender, has_channel-is_channel channel, stands.subscribers sender channel)
+  unfolding refusal
+  refusal_in-refusal r = ap first_broken (rules_in-rules_of r)
 
   pub due_in-due : (u : UserId) → due_in t u ≡ due j u
   due_in-due u =

@@ -1,46 +1,17 @@
 -- What an effect leaves in the tables, and the room that it needs.
-use Rattle.std.specs.Prelude.{◌≡◌, ℕ, zero, suc, ◌+◌, ◌<◌, ◌≤◌, Bool, true, false, not, ◌==◌, List, [], ◌∷◌, ◌++◌, IfSome, filter, map, vec_len, vec_capacity, if◌then◌else◌}
-use Rattle.std.specs.List.{list_any}
+use Rattle.std.specs.Prelude.{◌≡◌, ℕ, ◌+◌, ◌<◌, ◌≤◌, Bool, not, List, [], ◌∷◌, ◌++◌, IfSome, filter, map, vec_len, vec_capacity}
 use Rattle.chat_model.specs.declared.entry.Entry.{Entry}
 use Rattle.chat_model.specs.declared.ids.UserId.{UserId}
 use Rattle.chat_model.specs.declared.mentions.UserName.{UserName}
+use Rattle.chat_model.specs.declared.mentions.GroupName.{GroupName}
 use Rattle.notice_ledger.specs.Values.{numbered}
-use Rattle.office.specs.declared.tables.Channel.{Channel}
 use Rattle.office.specs.declared.tables.Message.{Message}
 use Rattle.office.specs.declared.tables.Waiting.{Waiting}
 use Rattle.office.specs.declared.tables.Tables.{Tables}
 use Rattle.office.specs.declared.prepared.Effect.{Effect}
 use Rattle.office.specs.declared.prepared.Effect.TheVariants as effect
+use Rattle.office.specs.UserSets.{users_in, users_after, changed_numbered, HasPlace}
 use Rattle.office.specs.Tables.{is_mail_to}
-
--- a channel as it is read: its name and its subscribers
-pub record Room : Type 0 where
-  pub name : List ℕ
-  pub subscribers : List UserId
-
--- a kept channel, as it is read
-abbrev pub room : Channel → Room
-room c = record { name = c.name; subscribers = c.subscribers.items }
-
--- the users after one subscribes or leaves
-abbrev pub subscribers_after : UserId → Bool → List UserId → List UserId
-subscribers_after u true us = if list_any (λ v. v.0 == u.0) us then us else us ++ u ∷ []
-subscribers_after u false us = filter (λ v. not (v.0 == u.0)) us
-
--- a list with its n-th element changed, from 0
-abbrev pub changed_at : {A : Type 0} → ℕ → (A → A) → List A → List A
-changed_at n f [] = []
-changed_at zero f (x ∷ xs) = f x ∷ xs
-changed_at (suc n) f (x ∷ xs) = x ∷ changed_at n f xs
-
--- the same, where numbers begin with 1
-abbrev pub changed_numbered : {A : Type 0} → ℕ → (A → A) → List A → List A
-changed_numbered zero f xs = xs
-changed_numbered (suc n) f xs = changed_at n f xs
-
--- a room after a user subscribes or leaves
-abbrev pub with_subscriber : UserId → Bool → Room → Room
-with_subscriber u on c = record { name = c.name; subscribers = subscribers_after u on c.subscribers }
 
 -- the named users after an effect
 abbrev pub names_after : Effect → List UserName → List UserName
@@ -52,11 +23,27 @@ abbrev pub bots_after : Effect → List Bool → List Bool
 bots_after (effect.User user bot) bots = bots ++ bot ∷ []
 bots_after _ bots = bots
 
--- the rooms after an effect
-abbrev pub rooms_after : Effect → List Room → List Room
-rooms_after (effect.Channel name) rooms = rooms ++ record { name = name; subscribers = [] } ∷ []
-rooms_after (effect.Subscription user channel on) rooms = changed_numbered channel.0 (with_subscriber user on) rooms
-rooms_after _ rooms = rooms
+-- the groups after an effect
+abbrev pub groups_after : Effect → List GroupName → List GroupName
+groups_after (effect.Group group members) groups = groups ++ group ∷ []
+groups_after _ groups = groups
+
+-- the members of the groups after an effect
+abbrev pub members_after : Effect → List (List UserId) → List (List UserId)
+members_after (effect.Group group members) all = all ++ users_in members ∷ []
+members_after (effect.Membership group user on) all = changed_numbered group.0 (users_after user on) all
+members_after _ all = all
+
+-- the names of the channels after an effect
+abbrev pub channels_after : Effect → List (List ℕ) → List (List ℕ)
+channels_after (effect.Channel name) channels = channels ++ name ∷ []
+channels_after _ channels = channels
+
+-- the subscribers of the channels after an effect
+abbrev pub subscribers_after : Effect → List (List UserId) → List (List UserId)
+subscribers_after (effect.Channel name) all = all ++ [] ∷ []
+subscribers_after (effect.Subscription channel user on) all = changed_numbered channel.0 (users_after user on) all
+subscribers_after _ all = all
 
 -- the messages after an effect
 abbrev pub messages_after : Effect → List Message → List Message
@@ -78,21 +65,22 @@ outbox_after _ outbox = outbox
 pub record IsApplied (old new : Tables) (e : Effect) : Type 0 where
   pub names : new.names.items ≡ names_after e old.names.items
   pub bots : new.bots.items ≡ bots_after e old.bots.items
-  pub rooms : map room new.channels.items ≡ rooms_after e (map room old.channels.items)
+  pub groups : new.groups.items ≡ groups_after e old.groups.items
+  pub members : map users_in new.members.items ≡ members_after e (map users_in old.members.items)
+  pub channels : new.channels.items ≡ channels_after e old.channels.items
+  pub subscribers : map users_in new.subscribers.items ≡ subscribers_after e (map users_in old.subscribers.items)
   pub messages : new.messages.items ≡ messages_after e old.messages.items
   pub waiting : new.waiting.items ≡ waiting_after e old.waiting.items
   pub outbox : new.outbox.items ≡ outbox_after e old.outbox.items
-
--- the tables have room for one more subscriber of the channel, if it is there
-abbrev pub HasPlace : Channel → Type 0
-HasPlace c = vec_len c.subscribers < vec_capacity c.subscribers
 
 -- the tables have room for the effect
 abbrev pub HasRoom : Tables → Effect → Type 0
 HasRoom t effect.Nothing = Unit {0}
 HasRoom t (effect.User user bot) = (vec_len t.names < vec_capacity t.names) × (vec_len t.bots < vec_capacity t.bots)
-HasRoom t (effect.Channel name) = vec_len t.channels < vec_capacity t.channels
-HasRoom t (effect.Subscription user channel on) = IfSome (numbered channel.0 t.channels.items) HasPlace
+HasRoom t (effect.Group group members) = (vec_len t.groups < vec_capacity t.groups) × (vec_len t.members < vec_capacity t.members)
+HasRoom t (effect.Membership group user on) = IfSome (numbered group.0 t.members.items) HasPlace
+HasRoom t (effect.Channel name) = (vec_len t.channels < vec_capacity t.channels) × (vec_len t.subscribers < vec_capacity t.subscribers)
+HasRoom t (effect.Subscription channel user on) = IfSome (numbered channel.0 t.subscribers.items) HasPlace
 HasRoom t (effect.Message message waiting) =
     (vec_len t.messages < vec_capacity t.messages) × (vec_len t.waiting + vec_len waiting ≤ vec_capacity t.waiting)
 HasRoom t (effect.Mailed user entries) = vec_len t.outbox + vec_len entries ≤ vec_capacity t.outbox

@@ -1,4 +1,5 @@
 pub mod Changes
+pub mod UserSets
 pub mod Tables
 pub mod Prepared
 pub mod Applied

@@ -3,11 +3,11 @@ use Rattle.std.specs.Prelude.{◌≡◌, ℕ, ◌+◌, ◌<◌, ◌≤◌, List,
 use Rattle.chat_model.specs.declared.event.Stamped.{Stamped}
 use Rattle.chat_model.specs.declared.event.Event.TheVariants.{MailTurn}
 use Rattle.chat_model.specs.declared.request.Request.{Request}
-use Rattle.chat_model.specs.declared.request.Request.TheVariants.{AddUser, AddChannel, Subscribe, Send}
+use Rattle.chat_model.specs.declared.request.Request.TheVariants.{AddUser, AddGroup, Member, AddChannel, Subscribe, Send}
 use Rattle.chat_model.specs.declared.request.Answer.{Answer}
 use Rattle.chat_model.specs.declared.request.Answer.TheVariants as answer
 use Rattle.keeper.specs.declared.keeper.Kept.{Kept}
-use Rattle.notice_ledger.specs.Values.{people, channels, messages, deal_count}
+use Rattle.notice_ledger.specs.Values.{people, groups, channels, messages, deal_count}
 use Rattle.notice_ledger.specs.Due.{DueUser, batch_rows, first_due}
 use Rattle.notice_ledger.specs.Outbox.{mail_entries}
 use Rattle.notice_ledger.specs.Rows.{rows}
@@ -35,6 +35,8 @@ pub record IsOffice (told : Option Kept) (j : List Stamped) (t : Tables) : Type 
 -- the answer to a request that is not refused
 abbrev pub answer_of : List Stamped → Request → Answer
 answer_of j (AddUser name bot) = answer.User (record { 0 = length (people j) + 1 })
+answer_of j (AddGroup name members) = answer.Group (record { 0 = length (groups j) + 1 })
+answer_of j (Member group user on) = answer.Done
 answer_of j (AddChannel name) = answer.Channel (record { 0 = length (channels j) + 1 })
 answer_of j (Subscribe user channel on) = answer.Done
 answer_of j (Send sender channel topic text) = answer.Sent (record { 0 = length (messages j) + 1 }) (record { 0 = deal_count j })

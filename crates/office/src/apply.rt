@@ -1,57 +1,11 @@
 //! How an effect is made in the tables: first the room for it, then the effect, which cannot fail.
-ghost use Rattle.std.specs.Prelude.{◌≡◌, ◌<◌, map, IfSome, OnOk};
-ghost use Rattle.std.specs.Vec.{vec_len, vec_capacity};
-ghost use Rattle.notice_ledger.specs.Values.{numbered};
-ghost use Rattle.office.specs.Applied.{room, HasPlace, changed_numbered, with_subscriber, subscribers_after, IsApplied, HasRoom};
+ghost use Rattle.std.specs.Prelude.{◌≡◌, OnOk};
+ghost use Rattle.office.specs.Applied.{IsApplied, HasRoom};
 
 use crate::prepared::Effect;
-use crate::tables::{Channel, Tables, is_among};
-use chat_model::{ChannelId, OutOfMemory, UserId};
-
-/// Makes room for one more subscriber of the channel, if it is there.
-fn reserve_subscriber(channels: &mut [Channel], channel: ChannelId) -> Result<(), OutOfMemory>
-    ensures rooms { map room channels.new ≡ map room channels.old }
-    ensures place { OnOk result (IfSome (numbered channel.0 channels.new) HasPlace) }
-{
-    if channel.0 == 0 {
-        return Ok(());
-    }
-    let i = (channel.0 - 1) as usize;
-    if i < channels.len() {
-        channels[i].subscribers.reserve(1)?;
-    }
-    Ok(())
-}
-
-/// Subscribes the user to the channel or takes the subscription away, if the channel is there.
-fn subscribe(channels: &mut [Channel], user: UserId, channel: ChannelId, on: bool)
-    requires { IfSome (numbered channel.0 channels.old) HasPlace }
-    ensures { map room channels.new ≡ changed_numbered channel.0 (with_subscriber user on) (map room channels.old) }
-{
-    if channel.0 == 0 {
-        return;
-    }
-    let i = (channel.0 - 1) as usize;
-    if i < channels.len() {
-        let channel = &mut channels[i];
-        set_subscriber(&mut channel.subscribers, user, on);
-    }
-}
-
-/// Adds the user or takes it away.
-fn set_subscriber(subscribers: &mut Vec<UserId>, user: UserId, on: bool)
-    requires { vec_len subscribers.old < vec_capacity subscribers.old }
-    ensures { subscribers.new.items ≡ subscribers_after user on subscribers.old.items }
-{
-    if !on {
-        subscribers.retain(|subscriber| subscriber.0 != user.0);
-        return;
-    }
-    if is_among(subscribers, user) {
-        return;
-    }
-    subscribers.push_reserved(user);
-}
+use crate::tables::Tables;
+use crate::user_set::{UserSet, change, reserve_place};
+use chat_model::OutOfMemory;
 
 impl Tables {
     /// Makes room for the effect. The tables' contents stay.
@@ -66,12 +20,19 @@ impl Tables {
                 self.bots.reserve(1)?;
                 Ok(())
             }
+            Effect::Group { .. } => {
+                self.groups.reserve(1)?;
+                self.members.reserve(1)?;
+                Ok(())
+            }
+            Effect::Membership { group, .. } => reserve_place(&mut self.members, group.0),
             Effect::Channel { .. } => {
                 self.channels.reserve(1)?;
+                self.subscribers.reserve(1)?;
                 Ok(())
             }
             Effect::Subscription { channel, .. } => {
-                reserve_subscriber(&mut self.channels, *channel)
+                reserve_place(&mut self.subscribers, channel.0)
             }
             Effect::Message { waiting, .. } => {
                 self.messages.reserve(1)?;
@@ -97,13 +58,23 @@ impl Tables {
                 self.bots.push_reserved(bot);
                 return;
             }
-            Effect::Channel { name } => {
-                let subscribers = Vec::new(self.alloc);
-                self.channels.push_reserved(Channel { name, subscribers });
+            Effect::Group { group, members } => {
+                self.groups.push_reserved(group);
+                self.members.push_reserved(members);
                 return;
             }
-            Effect::Subscription { user, channel, on } => {
-                subscribe(&mut self.channels, user, channel, on);
+            Effect::Membership { group, user, on } => {
+                change(&mut self.members, group.0, user, on);
+                return;
+            }
+            Effect::Channel { name } => {
+                let users = Vec::new(self.alloc);
+                self.channels.push_reserved(name);
+                self.subscribers.push_reserved(UserSet { users });
+                return;
+            }
+            Effect::Subscription { channel, user, on } => {
+                change(&mut self.subscribers, channel.0, user, on);
                 return;
             }
             Effect::Message {

@@ -3,11 +3,14 @@
 
 mod answer;
 mod apply;
+mod notices;
 mod office;
 mod prepared;
+mod refusal;
 mod tables;
 #[cfg(test)]
 mod tests;
+mod user_set;
 
 pub use answer::{AskFault, MailAnswer, StartFault, StepFault};
 pub use office::Office;

@@ -4,7 +4,9 @@ ghost use Rattle.chat_model.specs.Counts.{HasRisen};
 ghost use Rattle.chat_model.specs.declared.event.Event.TheVariants.{Restart, Asked};
 ghost use Rattle.chat_model.specs.declared.request.Refusal.{Refusal};
 ghost use Rattle.notice_ledger.specs.Journal.{stamp, last_stamp};
-ghost use Rattle.notice_ledger.specs.Lawful.{IsLawful, refusal, is_lawful_after};
+ghost use Rattle.notice_ledger.specs.Refusals.{refusal};
+ghost use Rattle.notice_ledger.specs.InOrder.{in_order};
+ghost use Rattle.notice_ledger.specs.Lawful.{IsLawful, is_lawful_after};
 ghost use Rattle.notice_ledger.specs.Conserved.{IsConserved};
 ghost use Rattle.office.specs.Office.{IsOffice, KeptStandsFor};
 
@@ -12,6 +14,7 @@ use crate::tables::{DueUser, Tables};
 use crate::{AskFault, MailAnswer, StartFault, StepFault};
 use chat_model::{Answer, Counts, Event, Moment, Refusal, Request, Stamped, UserId};
 use keeper::Keeper;
+use notice_ledger::in_order;
 use std::alloc::Global;
 use std::marker::Model;
 
@@ -187,10 +190,11 @@ impl<K: Keeper> Office<K> {
         )
     }
 
-    /// Grants a request, or refuses it by the first rule that it breaks.
+    /// Grants a request, or refuses it by the first rule that it breaks. The event keeps the request's lists ascending,
+    /// once each.
     pub fn ask(&mut self, request: Request, now: Moment) -> Result<Answer, AskFault>
         ensures granted { IfOk result (λ a. (a ≡ answer_of self.old.journal request)
-            × (self.new.journal ≡ self.old.journal ++ record { at = stamp self.old.journal now; event = Asked request } ∷ [])) }
+            × (self.new.journal ≡ self.old.journal ++ record { at = stamp self.old.journal now; event = Asked (in_order request) } ∷ [])) }
         ensures refused { (n : Refusal) → (result ≡ Err (AskFault.Refused n)) ↔ (refusal self.old.journal request ≡ Some n) }
         ensures err { OnErr result ((self.new.journal ≡ self.old.journal) × (K.kept self.new.keeper ≡ K.kept self.old.keeper)) }
         ensures fault { IfErr result (λ e. e ≡ AskFault.KeeperFault → HasRisen (K.faults self.old.keeper) (K.faults self.new.keeper)) }
@@ -201,7 +205,7 @@ impl<K: Keeper> Office<K> {
         }
         let answer = self.answer(&request);
         let at = self.stamp(now);
-        let event = Event::Asked(request);
+        let event = Event::Asked(in_order(request));
         self.record(Stamped { at, event })?;
         Ok(answer)
     }

@@ -3,17 +3,16 @@ ghost use Rattle.std.specs.Prelude.{◌≡◌, ◌+◌, ◌^◌, ◌<◌, ◌++�
 ghost use Rattle.notice_ledger.specs.Rows.{outbox_rows_from};
 ghost use Rattle.chat_model.specs.declared.row.RowChange.TheVariants.{Put, Remove};
 ghost use Rattle.chat_model.specs.declared.event.Event.TheVariants.{Asked, MailTurn};
-ghost use Rattle.chat_model.specs.declared.request.Request.TheVariants.{AddUser, Send};
-ghost use Rattle.chat_model.specs.declared.trigger.Trigger.TheVariants.{Mention};
+ghost use Rattle.chat_model.specs.declared.request.Request.TheVariants.{AddUser, AddGroup, Send};
 ghost use Rattle.office.specs.Tables.{is_mail_to};
 ghost use Rattle.office.specs.Prepared.{notice_row, key_of_notice};
 
-use crate::tables::{Message, Tables, Waiting, is_among, item_at};
+use crate::tables::{Message, Tables, Waiting};
+use crate::user_set::UserSet;
 use chat_model::{
-    ChannelId, DealNo, Entry, EntryNo, Event, List, MessageId, Moment, OutOfMemory, Request, Row,
-    RowChange, RowKey, Settings, Stage, Stamped, Text, Trigger, UserId, UserName, Way,
+    ChannelId, Entry, EntryNo, Event, GroupId, GroupName, List, MessageId, Moment, OutOfMemory,
+    Request, Row, RowChange, RowKey, Settings, Stage, Stamped, Text, UserId, UserName,
 };
-use mention_scan::{resolve, scan};
 use std::alloc::Global;
 
 /// The changes of the kept rows that an event brings, and its effect on the tables.
@@ -31,12 +30,21 @@ pub enum Effect {
         user: UserName,
         bot: bool,
     },
+    Group {
+        group: GroupName,
+        members: UserSet,
+    },
+    Membership {
+        group: GroupId,
+        user: UserId,
+        on: bool,
+    },
     Channel {
         name: Text,
     },
     Subscription {
-        user: UserId,
         channel: ChannelId,
+        user: UserId,
         on: bool,
     },
     Message {
@@ -106,70 +114,8 @@ fn put_entries(
     Ok(())
 }
 
-/// A notice of a mention that is ready at the event that owes it.
-fn mention(user: UserId, message: MessageId, way: Way, deal: DealNo, at: Moment) -> Waiting
-    ensures { result ≡ record { user = user; message = message; way = way; trigger = Mention; deal = deal; ready = at } }
-{
-    Waiting {
-        user,
-        message,
-        way,
-        trigger: Trigger::Mention,
-        deal,
-        ready: at,
-    }
-}
-
 impl Tables {
-    ghost use Rattle.office.specs.Prepared.{is_bot_in, notifies, mentioned_in, new_notices, changes_in, Fits};
-
-    fn is_bot(&self, user: UserId) -> bool
-        ensures { result ≡ is_bot_in self.now user }
-    {
-        match item_at(&self.bots, user.0) {
-            Some(bot) => *bot,
-            None => false,
-        }
-    }
-
-    /// Whether a message to the channel that mentions these users notifies the user.
-    fn notifies(
-        &self,
-        sender: UserId,
-        channel: ChannelId,
-        mentioned: &[UserId],
-        user: UserId,
-    ) -> bool
-        ensures { result ≡ notifies self.now sender channel mentioned.now user }
-    {
-        self.is_subscriber(user, channel)
-            && user.0 != sender.0
-            && !self.is_bot(user)
-            && is_among(mentioned, user)
-    }
-
-    /// The notices that the next message owes: by user, mail before push.
-    fn new_notices(
-        &self,
-        at: Moment,
-        sender: UserId,
-        channel: ChannelId,
-        mentioned: &[UserId],
-    ) -> Result<Vec<Waiting>, OutOfMemory>
-        ensures { IfOk result (λ waiting. waiting.items ≡ new_notices self.now at sender channel mentioned.now) }
-    {
-        let message = MessageId(self.messages.len() as u64 + 1);
-        let deal = DealNo(self.messages.len() as u64);
-        let mut waiting = Vec::new(self.alloc);
-        for name in &self.names {
-            let user = name.id;
-            if self.notifies(sender, channel, mentioned, user) {
-                waiting.push(mention(user, message, Way::Mail, deal, at))?;
-                waiting.push(mention(user, message, Way::Push, deal, at))?;
-            }
-        }
-        Ok(waiting)
-    }
+    ghost use Rattle.office.specs.Prepared.{changes_in, Fits};
 
     fn prepare_user(&self, name: &Text, bot: bool) -> Result<Prepared, OutOfMemory>
         ensures changes { IfOk result (λ p. p.changes.items ≡ changes_in self.now 0 (Asked (AddUser name.now bot))) }
@@ -193,15 +139,21 @@ impl Tables {
         })
     }
 
-    /// The users whom the text mentions.
-    #[tactic(auto, unfolding(crate::specs::Prepared::mentioned_in))]
-    fn mentioned(&self, text: &Text) -> Result<List<UserId>, OutOfMemory>
-        ensures { IfOk result (λ users. users ≡ mentioned_in self.now text.now) }
+    fn prepare_group(&self, name: &Text, members: &List<UserId>) -> Result<Prepared, OutOfMemory>
+        ensures changes { IfOk result (λ p. p.changes.items ≡ changes_in self.now 0 (Asked (AddGroup name.now members.now))) }
+        ensures effect { IfOk result (λ p. Fits self.now 0 (Asked (AddGroup name.now members.now)) p.effect) }
     {
-        let alloc = self.alloc;
-        let spans = scan(alloc, text.as_str())?;
-        let mentions = resolve(alloc, text.as_str(), spans.as_slice(), &self.names, &[])?;
-        Ok(mentions.users)
+        let group = GroupName {
+            id: GroupId(self.groups.len() as u64 + 1),
+            name: name.copy()?,
+        };
+        let members = UserSet {
+            users: members.copy()?.into_vec(),
+        };
+        Ok(Prepared {
+            changes: Vec::new(self.alloc),
+            effect: Effect::Group { group, members },
+        })
     }
 
     fn prepare_message(
@@ -216,8 +168,8 @@ impl Tables {
         ensures effect { IfOk result (λ p. Fits self.now at (Asked (Send sender channel topic.now text.now)) p.effect) }
     {
         let alloc = self.alloc;
-        let mentioned = self.mentioned(text)?;
-        let waiting = self.new_notices(at, sender, channel, mentioned.as_slice())?;
+        let mentioned = self.mentions(text)?;
+        let waiting = self.new_notices(at, sender, channel, &mentioned)?;
         let mut changes = Vec::new(alloc);
         changes.push(RowChange::Put(Row::Message {
             id: MessageId(self.messages.len() as u64 + 1),
@@ -264,6 +216,15 @@ impl Tables {
                 effect: Effect::Nothing,
             }),
             Event::Asked(Request::AddUser { name, bot }) => self.prepare_user(name, *bot),
+            Event::Asked(Request::AddGroup { name, members }) => self.prepare_group(name, members),
+            Event::Asked(Request::Member { group, user, on }) => Ok(Prepared {
+                changes,
+                effect: Effect::Membership {
+                    group: *group,
+                    user: *user,
+                    on: *on,
+                },
+            }),
             Event::Asked(Request::AddChannel { name }) => Ok(Prepared {
                 changes,
                 effect: Effect::Channel { name: name.copy()? },
@@ -271,8 +232,8 @@ impl Tables {
             Event::Asked(Request::Subscribe { user, channel, on }) => Ok(Prepared {
                 changes,
                 effect: Effect::Subscription {
-                    user: *user,
                     channel: *channel,
+                    user: *user,
                     on: *on,
                 },
             }),

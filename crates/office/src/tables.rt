@@ -1,23 +1,16 @@
 //! The tables that follow from the journal, and what a look-up reads in them.
 ghost use Rattle.std.specs.Prelude.{◌≡◌, ℕ, ◌+◌, ◌==◌, List, [], ◌<◌, ◌≤◌, find, filter, length, option_map, IfOk};
 ghost use Rattle.std.specs.Option.{option_copied, option_map_or};
-ghost use Rattle.std.specs.List.{list_any};
 ghost use Rattle.notice_ledger.specs.Values.{numbered};
 ghost use Rattle.office.specs.Tables.{is_mail_to, found_due};
 ghost use Rattle.notice_ledger.specs.Due.{sooner};
 
+use crate::user_set::UserSet;
 use chat_model::{
-    Answer, ChannelId, Conversation, Counts, DealNo, Entry, Item, List, MessageId, Moment,
-    OutOfMemory, Refusal, Request, Text, Trigger, UserId, UserName, Way,
+    Answer, ChannelId, Conversation, Counts, DealNo, Entry, GroupId, GroupName, Item, List,
+    MessageId, Moment, OutOfMemory, Request, Text, Trigger, UserId, UserName, Way,
 };
 use std::alloc::Global;
-
-/// A channel and its subscribers.
-#[derive(Debug, Drop)]
-pub struct Channel {
-    pub name: Text,
-    pub subscribers: Vec<UserId>,
-}
 
 /// A message as it was sent.
 #[derive(Debug, Drop)]
@@ -35,6 +28,8 @@ pub struct Waiting {
     pub message: MessageId,
     pub way: Way,
     pub trigger: Trigger,
+    /// The group by which the mention came, where the user is not mentioned by name.
+    pub via: Option<GroupId>,
     pub deal: DealNo,
     pub ready: Moment,
 }
@@ -46,13 +41,16 @@ pub struct DueUser {
     pub user: UserId,
 }
 
-/// Users, channels and messages by their numbers, the notices that wait, and the outbox.
+/// Users, groups, channels and messages by their numbers, the notices that wait, and the outbox.
 #[derive(Debug, Drop)]
 pub struct Tables {
     pub alloc: Global,
     pub names: Vec<UserName>,
     pub bots: Vec<bool>,
-    pub channels: Vec<Channel>,
+    pub groups: Vec<GroupName>,
+    pub members: Vec<UserSet>,
+    pub channels: Vec<Text>,
+    pub subscribers: Vec<UserSet>,
     pub messages: Vec<Message>,
     pub waiting: Vec<Waiting>,
     pub outbox: Vec<Entry>,
@@ -86,22 +84,6 @@ impl Waiting {
     }
 }
 
-/// Whether the user is among these.
-pub fn is_among(users: &[UserId], user: UserId) -> bool
-    ensures { result ≡ list_any (λ v. v.0 == user.0) users.now }
-{
-    users.iter().any(|other| other.0 == user.0)
-}
-
-impl Channel {
-    /// Whether the user is among the subscribers.
-    pub fn has(&self, user: UserId) -> bool
-        ensures { result ≡ list_any (λ v. v.0 == user.0) self.now.subscribers.items }
-    {
-        is_among(&self.subscribers, user)
-    }
-}
-
 /// Of two users the one with the lesser due moment, and at a tie the first.
 fn sooner(first: Option<DueUser>, next: DueUser) -> DueUser
     ensures { found_due result ≡ option_map_or (λ a. sooner (found_due a) (found_due next)) first (found_due next) }
@@ -120,7 +102,7 @@ fn first_mail(waiting: &[Waiting], user: UserId) -> Option<&Waiting>
 }
 
 impl Tables {
-    ghost use Rattle.office.specs.Tables.{StandsFor, has_user, has_channel, is_subscriber, refusal_in, name_in, channel_name_in, due_in, first_due_in, entry_from, entries_in, answer_in, counts_in};
+    ghost use Rattle.office.specs.Tables.{StandsFor, has_user, has_group, has_channel, name_in, channel_name_in, named_group_in, due_in, first_due_in, entry_from, entries_in, answer_in, counts_in};
 
     /// The tables of the empty journal.
     pub fn new(alloc: Global) -> Tables
@@ -130,65 +112,32 @@ impl Tables {
             alloc,
             names: Vec::new(alloc),
             bots: Vec::new(alloc),
+            groups: Vec::new(alloc),
+            members: Vec::new(alloc),
             channels: Vec::new(alloc),
+            subscribers: Vec::new(alloc),
             messages: Vec::new(alloc),
             waiting: Vec::new(alloc),
             outbox: Vec::new(alloc),
         }
     }
 
-    fn is_user(&self, user: UserId) -> bool
+    pub fn is_user(&self, user: UserId) -> bool
         ensures { result ≡ has_user self.now user }
     {
         item_at(&self.names, user.0).is_some()
     }
 
-    fn is_channel(&self, channel: ChannelId) -> bool
+    pub fn is_channel(&self, channel: ChannelId) -> bool
         ensures { result ≡ has_channel self.now channel }
     {
         item_at(&self.channels, channel.0).is_some()
     }
 
-    pub fn is_subscriber(&self, user: UserId, channel: ChannelId) -> bool
-        ensures { result ≡ is_subscriber self.now.channels.items user channel }
+    pub fn is_group(&self, group: GroupId) -> bool
+        ensures { result ≡ has_group self.now group }
     {
-        match item_at(&self.channels, channel.0) {
-            Some(channel) => channel.has(user),
-            None => false,
-        }
-    }
-
-    /// Why the request is refused: the first refusal, by its number, whose rule is broken.
-    pub fn refusal(&self, request: &Request) -> Option<Refusal>
-        ensures { result ≡ refusal_in self.now request.now }
-    {
-        match request {
-            Request::AddUser { .. } | Request::AddChannel { .. } => None,
-            Request::Subscribe { user, channel, .. } => {
-                if !self.is_user(*user) {
-                    Some(Refusal::NoUser)
-                } else if !self.is_channel(*channel) {
-                    Some(Refusal::NoChannel)
-                } else {
-                    None
-                }
-            }
-            Request::Send {
-                sender,
-                channel,
-                ..
-            } => {
-                if !self.is_user(*sender) {
-                    Some(Refusal::NoUser)
-                } else if !self.is_channel(*channel) {
-                    Some(Refusal::NoChannel)
-                } else if !self.is_subscriber(*sender, *channel) {
-                    Some(Refusal::NotSubscribed)
-                } else {
-                    None
-                }
-            }
-        }
+        item_at(&self.groups, group.0).is_some()
     }
 
     /// The user's name, empty where there is no such user.
@@ -206,9 +155,23 @@ impl Tables {
         ensures { result.now ≡ channel_name_in self.now channel }
     {
         match item_at(&self.channels, channel.0) {
-            Some(channel) => channel.name.as_str(),
+            Some(name) => name.as_str(),
             None => "",
         }
+    }
+
+    /// The group with its name, empty where there is no such group.
+    fn named_group(&self, group: GroupId) -> Result<GroupName, OutOfMemory>
+        ensures { IfOk result (λ named. named ≡ named_group_in self.now group) }
+    {
+        let name = match item_at(&self.groups, group.0) {
+            Some(named) => named.name.as_str(),
+            None => "",
+        };
+        Ok(GroupName {
+            id: group,
+            name: Text::from_str(self.alloc, name)?,
+        })
     }
 
     /// When the user's mails are due, in seconds since 1970-01-01T00:00:00Z.
@@ -239,13 +202,17 @@ impl Tables {
         ensures { IfOk result (λ e. e ≡ entry_from self.now at notice.now message.now) }
     {
         let alloc = self.alloc;
+        let via = match notice.via {
+            Some(group) => Some(self.named_group(group)?),
+            None => None,
+        };
         let mut items = List::new(alloc);
         items.push(Item {
             message: notice.message,
             sender: message.sender,
             sender_name: Text::from_str(alloc, self.name(message.sender))?,
             trigger: notice.trigger,
-            via: None,
+            via,
             text: message.text.copy()?,
         })?;
         Ok(Entry::Mail {
@@ -282,6 +249,8 @@ impl Tables {
     {
         match request {
             Request::AddUser { .. } => Answer::User(UserId(self.names.len() as u64 + 1)),
+            Request::AddGroup { .. } => Answer::Group(GroupId(self.groups.len() as u64 + 1)),
+            Request::Member { .. } => Answer::Done,
             Request::AddChannel { .. } => {
                 Answer::Channel(ChannelId(self.channels.len() as u64 + 1))
             }

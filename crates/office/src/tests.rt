@@ -1,7 +1,8 @@
 //! The office with ample memory, over a keeper in memory.
 use crate::{AskFault, MailAnswer, Office, StartFault, StepFault};
 use chat_model::{
-    Answer, ChannelId, Counts, DealNo, List, MessageId, Moment, Refusal, Request, Text, UserId,
+    Answer, ChannelId, Counts, DealNo, Entry, Event, GroupId, List, MessageId, Moment, Refusal,
+    Request, Row, Stamped, Text, UserId,
 };
 use keeper::{Keeper, MemoryKeeper};
 use std::alloc::Global;
@@ -125,6 +126,122 @@ fn a_broken_rule_is_refused(rt: HostRuntime) -> Result<(), Fail> {
         not_subscribed,
         Err(AskFault::Refused(Refusal::NotSubscribed))
     );
+    Ok(())
+}
+
+fn group(alloc: Global, name: &str, members: &[u64]) -> Result<Request, Fail> {
+    let mut users = List::new(alloc);
+    for member in members {
+        users.push(UserId(*member))?;
+    }
+    Ok(Request::AddGroup {
+        name: Text::from_str(alloc, name)?,
+        members: users,
+    })
+}
+
+fn message(alloc: Global, text: &str) -> Result<Request, Fail> {
+    Ok(Request::Send {
+        sender: UserId(1),
+        channel: ChannelId(1),
+        topic: Text::from_str(alloc, "lunch")?,
+        text: Text::from_str(alloc, text)?,
+    })
+}
+
+// The group by which the item of each outbox entry came, 0 where it came by name.
+fn groups_of_entries(alloc: Global, office: Office<MemoryKeeper>) -> Result<Vec<u64>, Fail> {
+    let mut keeper = office.close();
+    let Ok(kept) = keeper.load() else {
+        return Err(Fail::from("no load"));
+    };
+    let mut groups = Vec::new(alloc);
+    for row in kept.rows.as_slice() {
+        if let Row::Outbox {
+            entry: Entry::Mail { items, .. },
+            ..
+        } = row
+        {
+            for item in items.as_slice() {
+                groups.push(match &item.via {
+                    Some(group) => group.id.0,
+                    None => 0,
+                })?;
+            }
+        }
+    }
+    Ok(groups)
+}
+
+#[test]
+fn a_mention_comes_by_the_smallest_group_of_the_user(rt: HostRuntime) -> Result<(), Fail> {
+    let alloc = rt.alloc();
+    let now = moment(&rt, 100);
+    let mut office = team(&rt, alloc, List::new(alloc))?;
+    let ops = office.ask(group(alloc, "ops", &[2, 1, 2])?, now);
+    assert_eq!(rt; ops, Ok(Answer::Group(GroupId(1))));
+    let dev = office.ask(group(alloc, "dev", &[2])?, now);
+    assert_eq!(rt; dev, Ok(Answer::Group(GroupId(2))));
+    let web = office.ask(group(alloc, "web", &[2])?, now);
+    assert_eq!(rt; web, Ok(Answer::Group(GroupId(3))));
+    for text in [
+        "@*ops* @*web* @*dev*",
+        "@*ops* @**Ben**",
+        "@*ops*",
+        "@*OPS* @*web*",
+    ] {
+        let sent = office.ask(message(alloc, text)?, now);
+        assert!(rt; sent.is_ok());
+    }
+    assert_eq!(rt; office.audit(), counts(8, 0));
+    let mailed = office.mail_turn(moment(&rt, 220));
+    assert!(rt; mailed.is_ok());
+    let groups = groups_of_entries(alloc, office)?;
+    assert_eq!(rt; groups.as_slice(), [2, 0, 1, 3].as_slice());
+    Ok(())
+}
+
+#[test]
+fn a_group_keeps_its_members_ascending_once_each(rt: HostRuntime) -> Result<(), Fail> {
+    let alloc = rt.alloc();
+    let mut office = team(&rt, alloc, List::new(alloc))?;
+    let ops = office.ask(group(alloc, "ops", &[2, 1, 2])?, moment(&rt, 100));
+    assert_eq!(rt; ops, Ok(Answer::Group(GroupId(1))));
+    match office.journal().last() {
+        Some(
+            Stamped {
+                event: Event::Asked(Request::AddGroup { members, .. }),
+                ..
+            },
+        ) => {
+            assert_eq!(rt; members.as_slice(), [UserId(1), UserId(2)].as_slice());
+            Ok(())
+        }
+        _ => Err(Fail::from("no group")),
+    }
+}
+
+#[test]
+fn a_membership_is_what_its_last_change_made_it(rt: HostRuntime) -> Result<(), Fail> {
+    let alloc = rt.alloc();
+    let now = moment(&rt, 100);
+    let mut office = team(&rt, alloc, List::new(alloc))?;
+    let ops = office.ask(group(alloc, "ops", &[2])?, now);
+    assert_eq!(rt; ops, Ok(Answer::Group(GroupId(1))));
+    for on in [false, true] {
+        let member = office.ask(
+            Request::Member {
+                group: GroupId(1),
+                user: UserId(2),
+                on,
+            },
+            now,
+        );
+        assert_eq!(rt; member, Ok(Answer::Done));
+        let sent = office.ask(message(alloc, "@*ops*")?, now);
+        assert!(rt; sent.is_ok());
+    }
+    assert_eq!(rt; office.audit(), counts(2, 0));
     Ok(())
 }
 

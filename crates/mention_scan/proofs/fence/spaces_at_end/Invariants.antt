@@ -1,4 +1,4 @@
-use Rattle.std.proofs.Common.{◌≡◌, ◌+◌, ◌-◌, ◌≤◌, take, length, nat_eq}
+use Rattle.std.proofs.Common.{◌≡◌, ◌+◌, ◌-◌, ◌≤◌, take, length}
 use Rattle.std.specs.List.{suffix_len}
 use Rattle.std.specs.Prelude.{◌==◌}
 use Rattle.mention_scan.proofs.fence.spaces_at_end.Given as goal

@@ -1,7 +1,7 @@
-use Rattle.std.proofs.Common.{◌≡◌, ◌+◌, ◌-◌, ◌∙◌, ◌≤◌, List, None, Some, ap, arith, drop, false, length, length-drop, sym, take}
+use Rattle.std.proofs.Common.{◌≡◌, ◌+◌, ◌∙◌, ◌≤◌, Some, ap, arith, drop, false, length}
 use Rattle.std.proofs.lemmas.List.{take_rest}
 use Rattle.mention_scan.specs.Division.{run_place}
-use Rattle.mention_scan.proofs.Runs.{bare-length, code-length, run_part-fits}
+use Rattle.mention_scan.proofs.Runs.{code-length, run_part-fits}
 use Rattle.mention_scan.proofs.line.run_part_length.Goals as goal
 
 place-in_Some : (c : goal.In-Some) → Some c.in-Some.inside ≡ run_place false c.args.run (drop c.args.run c.args.bytes.now)

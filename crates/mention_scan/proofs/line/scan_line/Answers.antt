@@ -1,7 +1,7 @@
-use Rattle.std.proofs.Common.{◌≡◌, ◌∙◌, ◌++◌, None, Some, ap, arith, drop, length, sym, subst}
+use Rattle.std.proofs.Common.{◌≡◌, ◌∙◌, ◌++◌, ap, arith, sym}
 use Rattle.std.specs.Char.{encode_utf8}
-use Rattle.mention_scan.specs.Division.{run_length, span_form}
-use Rattle.mention_scan.proofs.Reading.{Reading-end, Reading-run, Reading-span, Reading-single, form-boundary, form-fits, span_form-has}
+use Rattle.mention_scan.specs.Division.{run_length}
+use Rattle.mention_scan.proofs.Reading.{Reading-run, Reading-span, Reading-single, form-boundary, span_form-has}
 use Rattle.mention_scan.proofs.Runs.{run_part-boundary}
 use Rattle.mention_scan.proofs.line.scan_line.Goals as goal
 

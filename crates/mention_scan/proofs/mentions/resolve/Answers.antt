@@ -1,12 +1,15 @@
 use Rattle.std.proofs.Common.{◌≡◌, ◌∙◌, ◌&&◌, Bool, true, false, refl, List, All, ap, filter, map, sym, subst}
 use Rattle.std.specs.List.{list_any}
+use Rattle.std.specs.List.Sorted.{IsStrictlyIncreasing}
 use Rattle.std.proofs.lemmas.List.Elements.{All-filter, filter_agree}
+use Rattle.chat_model.specs.declared.ids.GroupId.{GroupId}
+use Rattle.chat_model.specs.declared.ids.UserId.{UserId}
 use Rattle.mention_scan.specs.declared.span.Span.{Span}
 use Rattle.mention_scan.specs.Division.{LiesWithin, spans_of}
 use Rattle.mention_scan.specs.Mentions.{inner_of, is_channel_wildcard, is_group_named, is_group_span, is_mentioned, is_topic_wildcard, is_user_span, may_name, speaks_of}
 use Rattle.chat_model.specs.declared.mentions.GroupName.{GroupName}
 use Rattle.chat_model.specs.declared.mentions.UserName.{UserName}
-use Rattle.mention_scan.proofs.Judging.{list_any-filter}
+use Rattle.mention_scan.proofs.Judging.{kept-ascend, list_any-filter}
 use Rattle.mention_scan.proofs.Within.{spans_of-within}
 use Rattle.mention_scan.proofs.mentions.resolve.Goals as goal
 
@@ -37,8 +40,8 @@ and_assoc : (a b d : Bool) → ((a && b) && d) ≡ (a && (b && d))
 and_assoc true b d = refl
 and_assoc false b d = refl
 
-pub returns : goal.returns
-returns c =
+pub returns-clause-mentions : goal.returns-clause-mentions
+returns-clause-mentions c =
     let text = c.args.text.now in
     let users = c.args.users.now in
     let groups = c.args.groups.now in
@@ -56,3 +59,14 @@ returns c =
     let channel = c.has_channel_wildcard.ensures ∙ ap (λ ss. list_any (λ s. is_user_span s && is_channel_wildcard (inner_of text s)) ss) c.requires.spans_of_the_text in
     let topic = c.has_topic_wildcard.ensures ∙ ap (λ ss. list_any (λ s. is_user_span s && is_topic_wildcard (inner_of text s)) ss) c.requires.spans_of_the_text in
     rw (user_ids, group_ids, channel, topic) refl
+
+pub returns-clause-ascending : goal.returns-clause-ascending
+returns-clause-ascending c =
+    let text = c.args.text.now in
+    let spoken : UserName → Bool = λ u. list_any (λ s. speaks_of (inner_of text s) u) c.as_slice.result.now in
+    let named : GroupName → Bool = λ g. list_any (λ s. is_group_span s && is_group_named (inner_of text s) g) c.args.spans.now in (
+      (λ h. subst (λ ids. IsStrictlyIncreasing (map (λ (id : UserId). id.0) ids)) (sym c.in_ok-users.ensures)
+          (kept-ascend (λ (id : UserId). id.0) (λ (u : UserName). u.id) spoken c.args.users.now h)),
+      λ h. subst (λ ids. IsStrictlyIncreasing (map (λ (id : GroupId). id.0) ids)) (sym c.in_ok-groups.ensures)
+          (kept-ascend (λ (id : GroupId). id.0) (λ (g : GroupName). g.id) named c.args.groups.now h),
+    )

@@ -1,7 +1,8 @@
-use Rattle.std.proofs.Common.{◌≡◌, ◌+◌, ◌-◌, ◌<◌, ◌≤◌, ◌∙◌, ap, arith, length, get_or, sym, subst, take}
-use Rattle.std.specs.Prelude.{◌==◌, All, IsCharBoundary}
-use Rattle.std.specs.List.{position_or_len}
+use Rattle.std.proofs.Common.{◌≡◌, ◌<◌, ◌∙◌, ap, arith, length, sym, subst, take}
+use Rattle.std.specs.Prelude.{All}
 use Rattle.mention_scan.specs.Division.{LiesWithin, spans_of}
+use Rattle.mention_scan.proofs.Bare.{division-bare}
+use Rattle.mention_scan.proofs.Divides.{division-one}
 use Rattle.mention_scan.proofs.Within.{spans_of-within}
 use Rattle.mention_scan.proofs.Lines.{LinesRead-line, LinesRead-end, line_feed-boundary, behind-boundary, front-range, division-whole}
 use Rattle.mention_scan.proofs.spans.scan.Goals as goal
@@ -13,6 +14,12 @@ range-line-requires-clause-end_boundary c =
 
 pub returns-in_err-scan_in_fence-clause-whole : goal.returns-in_err-scan_in_fence-clause-whole
 returns-in_err-scan_in_fence-clause-whole c = division-whole c.args.text.now c.utf8.text
+
+pub returns-in_err-scan_in_fence-clause-one : goal.returns-in_err-scan_in_fence-clause-one
+returns-in_err-scan_in_fence-clause-one c = division-one c.args.text.now
+
+pub returns-in_err-scan_in_fence-clause-bare : goal.returns-in_err-scan_in_fence-clause-bare
+returns-in_err-scan_in_fence-clause-bare c = division-bare c.args.text.now c.utf8.text
 
 pub returns-then-length-rest-clause-spans : goal.returns-then-length-rest-clause-spans
 returns-then-length-rest-clause-spans c =
@@ -33,6 +40,12 @@ returns-then-length-rest-clause-within c =
 
 pub returns-then-length-rest-clause-whole : goal.returns-then-length-rest-clause-whole
 returns-then-length-rest-clause-whole c = division-whole c.args.text.now c.utf8.text
+
+pub returns-then-length-rest-clause-one : goal.returns-then-length-rest-clause-one
+returns-then-length-rest-clause-one c = division-one c.args.text.now
+
+pub returns-then-length-rest-clause-bare : goal.returns-then-length-rest-clause-bare
+returns-then-length-rest-clause-bare c = division-bare c.args.text.now c.utf8.text
 
 pub range_from-rest-requires : goal.range_from-rest-requires
 range_from-rest-requires c =

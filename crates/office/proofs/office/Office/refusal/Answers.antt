@@ -1,5 +1,5 @@
 use Rattle.std.proofs.Common.{ap, ◌∙◌}
-use Rattle.notice_ledger.specs.Lawful.{refusal}
+use Rattle.notice_ledger.specs.Refusals.{refusal}
 use Rattle.office.specs.Office.{OfficeSeen}
 use Rattle.office.proofs.Standing.{refusal_in-refusal}
 use Rattle.office.proofs.office.Office.refusal.Goals as goal

@@ -11,11 +11,14 @@ use Rattle.office.proofs.tables.Tables.apply.Goals as goal
 pub returns-in-Mailed : goal.returns-in-Mailed
 returns-in-Mailed c =
     let old = c.args.self.now in
-    let new : Tables = record { alloc = old.alloc; names = old.names; bots = old.bots; channels = old.channels; messages = old.messages; waiting = c.retain.new.self; outbox = c.append-in-Mailed.new.self } in
+    let new : Tables = record { alloc = old.alloc; names = old.names; bots = old.bots; groups = old.groups; members = old.members; channels = old.channels; subscribers = old.subscribers; messages = old.messages; waiting = c.retain.new.self; outbox = c.append-in-Mailed.new.self } in
     subst (λ (e : Effect). IsApplied old new e) (sym c.in-Mailed.is) (record {
       names = refl;
       bots = refl;
-      rooms = refl;
+      groups = refl;
+      members = refl;
+      channels = refl;
+      subscribers = refl;
       messages = refl;
       waiting = filter_same _ (λ (w : Waiting). not (is_mail_to c.in-Mailed.user w)) _ (λ x b f k. search rules) old.waiting.items c.retain.new.self.items c.retain.ensures.filtered;
       outbox = c.append-in-Mailed.ensures.items ∙ ap (λ r. if is_ok r then old.outbox.items ++ c.in-Mailed.entries.items else old.outbox.items) c.unwrap-in-Mailed.ensures;

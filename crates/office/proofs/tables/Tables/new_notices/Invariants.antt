@@ -8,4 +8,4 @@ use Rattle.office.proofs.tables.Tables.new_notices.Given as goal
 abbrev pub invariant-loop-name : goal.invariant-loop-name
 invariant-loop-name l =
     l.waiting.items
-    ≡ flat_map (λ name. if notifies l.self l.sender l.channel l.mentioned name.id then next_notice l.self l.at name.id Mail ∷ next_notice l.self l.at name.id Push ∷ [] else []) (take l.name-index l.name-items)
+    ≡ flat_map (λ name. if notifies l.self l.sender l.channel l.mentioned name.id then next_notice l.self l.at l.mentioned name.id Mail ∷ next_notice l.self l.at l.mentioned name.id Push ∷ [] else []) (take l.name-index l.name-items)

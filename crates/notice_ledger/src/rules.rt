@@ -1,0 +1,49 @@
+//! The rules that look at a text alone.
+ghost use Rattle.std.specs.Prelude.{◌≡◌, chars};
+ghost use Rattle.std.specs.List.{list_any};
+ghost use Rattle.notice_ledger.specs.Refusals.{has_outer_space, is_bad_name, is_blank, is_longer_than, is_unnamable};
+
+/// Whether the text has more than so many characters, which are Unicode scalar values and not bytes: the cause of
+/// `TextTooLong`, `TopicTooLong` and `NameTooLong`.
+pub fn is_longer_than(text: &str, most: usize) -> bool
+    ensures { result ≡ is_longer_than most text.now }
+{
+    text.chars().count() > most
+}
+
+/// Whether the text has only whitespace, also beyond ASCII, as an empty text has: the cause of `EmptyText`.
+pub fn is_blank(text: &str) -> bool
+    ensures { result ≡ is_blank text.now }
+{
+    text.chars().all(|c| c.is_whitespace())
+}
+
+/// Whether the name is empty, begins or ends with a space, or holds a control character or one of `*`, `|`, `@`,
+/// `\`, `>`, `"` and a backquote: the cause of `BadName`.
+#[tactic(auto, unfolding(crate::specs::Refusals::is_bad_name))]
+pub fn is_bad_name(name: &str) -> bool
+    ensures { result ≡ is_bad_name name.now }
+{
+    name.is_empty() || has_outer_space(name.as_bytes()) || has_unnamable(name)
+}
+
+/// Whether the name begins or ends with a space.
+fn has_outer_space(name: &[u8]) -> bool
+    ensures { result ≡ has_outer_space name.now }
+{
+    name.starts_with(b" ") || name.ends_with(b" ")
+}
+
+/// Whether the name has a character that no name has.
+fn has_unnamable(name: &str) -> bool
+    ensures { result ≡ list_any is_unnamable (chars name.now) }
+{
+    name.chars().any(|c| is_unnamable(c))
+}
+
+/// Whether no name has this character.
+fn is_unnamable(c: char) -> bool
+    ensures { result ≡ is_unnamable c }
+{
+    c.is_control() || matches!(c, '*' | '|' | '@' | '\\' | '>' | '"' | '`')
+}
