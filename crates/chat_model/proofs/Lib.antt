@@ -1,3 +1,5 @@
 pub mod Blocks
+pub mod Digits
 pub mod Keys
+pub mod OnceEach
 pub mod Rows

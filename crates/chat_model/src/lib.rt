@@ -1,6 +1,7 @@
 //! The words that every other crate speaks: ids, texts, requests, events, rows and outbox entries.
 #![tactic(auto)]
 
+mod ascending;
 mod counts;
 mod duplicate;
 mod entry;
@@ -11,6 +12,7 @@ mod list;
 mod memory;
 mod mentions;
 mod moment;
+mod number;
 mod request;
 mod row;
 mod settings;
@@ -19,6 +21,7 @@ mod tests;
 mod text;
 mod trigger;
 
+pub use ascending::{ascending_groups, ascending_users};
 pub use counts::Counts;
 pub use duplicate::{Duplicate, duplicate_all};
 pub use entry::{Conversation, Entry, Item};
@@ -29,6 +32,7 @@ pub use list::List;
 pub use memory::OutOfMemory;
 pub use mentions::{GroupName, Mentions, UserName};
 pub use moment::Moment;
+pub use number::number_of;
 pub use request::{Answer, Refusal, Request};
 pub use row::{Cause, Row, RowChange, RowKey, Stage};
 pub use settings::Settings;

@@ -113,6 +113,78 @@ fn names_are_copied(rt: HostRuntime) -> Result<(), Fail> {
 }
 
 #[test]
+fn groups_and_memberships_are_copied(rt: HostRuntime) -> Result<(), Fail> {
+    let alloc = rt.alloc();
+    let mut users = List::new(alloc);
+    users.push(UserId(2))?;
+    users.push(UserId(1))?;
+    let group = Request::AddGroup {
+        name: Text::from_str(alloc, "ops")?,
+        members: users,
+    };
+    match group.copy(alloc)? {
+        Request::AddGroup { name, members } => {
+            assert_eq!(rt; name.as_str(), "ops");
+            assert_eq!(rt; members.as_slice(), [UserId(2), UserId(1)].as_slice());
+        }
+        _ => panic!(rt; "another request"),
+    }
+    let member = Request::Member {
+        group: GroupId(3),
+        user: UserId(2),
+        on: true,
+    };
+    match member.copy(alloc)? {
+        Request::Member { group, user, on } => {
+            assert_eq!(rt; group, GroupId(3));
+            assert_eq!(rt; user, UserId(2));
+            assert!(rt; on);
+        }
+        _ => panic!(rt; "another request"),
+    }
+    Ok(())
+}
+
+#[test]
+fn subscriptions_and_messages_are_copied(rt: HostRuntime) -> Result<(), Fail> {
+    let alloc = rt.alloc();
+    let subscription = Request::Subscribe {
+        user: UserId(2),
+        channel: ChannelId(3),
+        on: true,
+    };
+    match subscription.copy(alloc)? {
+        Request::Subscribe { user, channel, on } => {
+            assert_eq!(rt; user, UserId(2));
+            assert_eq!(rt; channel, ChannelId(3));
+            assert!(rt; on);
+        }
+        _ => panic!(rt; "another request"),
+    }
+    let message = Request::Send {
+        sender: UserId(2),
+        channel: ChannelId(3),
+        topic: Text::from_str(alloc, "lunch")?,
+        text: Text::from_str(alloc, "hi @**Ben**")?,
+    };
+    match message.copy(alloc)? {
+        Request::Send {
+            sender,
+            channel,
+            topic,
+            text,
+        } => {
+            assert_eq!(rt; sender, UserId(2));
+            assert_eq!(rt; channel, ChannelId(3));
+            assert_eq!(rt; topic.as_str(), "lunch");
+            assert_eq!(rt; text.as_str(), "hi @**Ben**");
+        }
+        _ => panic!(rt; "another request"),
+    }
+    Ok(())
+}
+
+#[test]
 fn events_are_copied(rt: HostRuntime) -> Result<(), Fail> {
     let alloc = rt.alloc();
     let at = Moment::new(100).ok_or("a moment")?;

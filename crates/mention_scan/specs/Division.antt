@@ -190,12 +190,12 @@ abbrev pub fence_opened : List ℕ → Option Fence
 fence_opened line = if nat_le 3 (run_of (byte "`") line) then fence_of (byte "`") line else fence_of (byte "~") line
 
 -- nothing but spaces: a run of them reaches the end
-abbrev pub is_blank : List ℕ → Bool
-is_blank bs = run_of (byte " ") bs == length bs
+abbrev pub has_only_spaces : List ℕ → Bool
+has_only_spaces bs = run_of (byte " ") bs == length bs
 
 -- the line is a run of the fence's character, at least as long as the opening one, followed only by spaces
 abbrev pub closes : Fence → List ℕ → Bool
-closes fence line = nat_le fence.size (run_of fence.character line) && is_blank (drop (run_of fence.character line) line)
+closes fence line = nat_le fence.size (run_of fence.character line) && has_only_spaces (drop (run_of fence.character line) line)
 
 -- the fence that is open behind a line that is read where this one is open, or none
 abbrev pub fence_behind : Option Fence → List ℕ → Option Fence
@@ -287,11 +287,11 @@ spans_from start (single c ∷ parts) = spans_from (start + length (bytes_of (si
 abbrev pub spans_of : List ℕ → List Span
 spans_of text = spans_from 0 (division text)
 
--- the least number of bytes that a span with an Inner has round it: two stars before and two behind with `@`, or one and one
+-- the number of bytes round the Inner of a span without `_`: `@` with two stars before and two behind, a group's with one and one
 abbrev pub marks_of : Span → ℕ
 marks_of s = if s.group then 3 else 5
 
--- the span lies within the text, and its Inner has a byte at least
+-- the span lies within the text, and is longer than the `@` and the stars round an Inner
 pub record LiesWithin (text : List ℕ) (s : Span) : Type 0 where
   pub room : s.start + marks_of s < s.end
   pub end : s.end ≤ length text

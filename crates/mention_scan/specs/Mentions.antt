@@ -1,13 +1,13 @@
 -- What a text mentions.
-use Rattle.std.specs.Prelude.{ℕ, ◌+◌, ◌-◌, ◌*◌, Bool, false, ◌&&◌, ◌||◌, ◌==◌, not, List, map, filter, fold, count_by, length, Option, Some, None, codes, nat_le, slice_range, if◌then◌else◌}
-use Rattle.std.specs.Char.{is_ascii_digit}
-use Rattle.std.specs.List.{list_all, list_any, before_last, after_last}
-use Rattle.std.specs.List.Sorted.{IsStrictlyIncreasing}
+use Rattle.std.specs.Prelude.{ℕ, ◌+◌, ◌-◌, Bool, false, ◌&&◌, ◌||◌, ◌==◌, not, List, map, filter, count_by, length, codes, slice_range, if◌then◌else◌}
+use Rattle.std.specs.List.{list_any, before_last, after_last}
 use Rattle.std.specs.Option.{option_map_or}
 use Rattle.std.specs.Str.{byte, bytes_eq, str_eq_ignore_ascii_case}
 use Rattle.chat_model.specs.declared.mentions.Mentions.{Mentions}
 use Rattle.chat_model.specs.declared.mentions.UserName.{UserName}
 use Rattle.chat_model.specs.declared.mentions.GroupName.{GroupName}
+use Rattle.chat_model.specs.Ascending.{ascending_once_by}
+use Rattle.chat_model.specs.Number.{number_of}
 use Rattle.mention_scan.specs.declared.span.Span.{Span}
 use Rattle.mention_scan.specs.Division.{spans_of}
 
@@ -57,16 +57,6 @@ after_bar inner = after_last is_bar inner
 abbrev pub before_bar : List ℕ → List ℕ
 before_bar inner = before_last is_bar inner
 
--- the number that decimal digits write
-abbrev pub decimal_value : List ℕ → ℕ
-decimal_value digits = fold (λ value digit. 10 * value + (digit - byte "0")) 0 digits
-
--- the number that one to nineteen digits write, and none if they aren't so
-abbrev pub number_of : List ℕ → Option ℕ
-number_of digits =
-    if nat_le 1 (length digits) && nat_le (length digits) 19 && list_all is_ascii_digit digits then Some (decimal_value digits)
-    else None
-
 -- the user has this name without ASCII case
 abbrev pub is_named : List ℕ → UserName → Bool
 is_named name user = str_eq_ignore_ascii_case name user.name
@@ -115,18 +105,12 @@ is_group_mentioned text group =
 abbrev pub has_inner : (List ℕ → Bool) → List ℕ → Bool
 has_inner test text = list_any (λ span. is_user_span span && test (inner_of text span)) (spans_of text)
 
--- what a text mentions: of these users and groups those that a span mentions, in the order in which they stand, and the wildcards
+-- what a text mentions: of these users and groups those that a span mentions, ascending by number, once each, and the wildcards
 abbrev pub mentions : List ℕ → List UserName → List GroupName → Mentions
 mentions text users groups =
     record {
-      users = map (λ user. user.id) (filter (is_mentioned text users) users);
-      groups = map (λ group. group.id) (filter (is_group_mentioned text) groups);
+      users = ascending_once_by (λ id. id.0) (map (λ user. user.id) (filter (is_mentioned text users) users));
+      groups = ascending_once_by (λ id. id.0) (map (λ group. group.id) (filter (is_group_mentioned text) groups));
       channel_wildcard = has_inner is_channel_wildcard text;
       topic_wildcard = has_inner is_topic_wildcard text;
     }
-
--- where the numbers of the users ascend, those of the ones that are mentioned do, so each stands once; and the same of groups
-abbrev pub KeepsAscending : List UserName → List GroupName → Mentions → Type 0
-KeepsAscending users groups mentioned =
-    (IsStrictlyIncreasing (map (λ user. user.id.0) users) → IsStrictlyIncreasing (map (λ id. id.0) mentioned.users))
-    × (IsStrictlyIncreasing (map (λ group. group.id.0) groups) → IsStrictlyIncreasing (map (λ id. id.0) mentioned.groups))

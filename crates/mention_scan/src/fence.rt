@@ -1,7 +1,7 @@
 //! Fences: lines of a text that stand apart.
 ghost use Rattle.std.specs.Prelude.{◌≡◌, ◌==◌, ◌≤◌, length};
 ghost use Rattle.std.specs.List.{suffix_len};
-ghost use Rattle.mention_scan.specs.Division.{closes, fence_behind, fence_of, fence_opened, is_blank, without_outer_spaces};
+ghost use Rattle.mention_scan.specs.Division.{closes, fence_behind, fence_of, fence_opened, has_only_spaces, without_outer_spaces};
 
 use crate::run::run_of;
 
@@ -32,7 +32,7 @@ impl Fence {
         ensures { result ≡ closes self.now line.now }
     {
         let run = run_of(self.character, line);
-        run >= self.size && is_blank(&line[run..])
+        run >= self.size && has_only_spaces(&line[run..])
     }
 
     /// The fence that is open behind a line that is read where this one is open.
@@ -77,8 +77,8 @@ fn without_outer_spaces(bytes: &[u8]) -> &[u8]
 }
 
 /// Whether these are nothing but spaces.
-fn is_blank(bytes: &[u8]) -> bool
-    ensures { result ≡ is_blank bytes.now }
+fn has_only_spaces(bytes: &[u8]) -> bool
+    ensures { result ≡ has_only_spaces bytes.now }
 {
     run_of(b' ', bytes) == bytes.len()
 }

@@ -1,11 +1,8 @@
 //! The words that stand between the stars of a span.
 ghost use Rattle.std.specs.Prelude.{◌≡◌, ◌+◌, ◌<◌, length, take, drop, MatchOption, true, false};
-ghost use Rattle.mention_scan.specs.Mentions.{after_bar, before_bar, has_bar, is_channel_wildcard, is_group_named, is_named, is_topic_wildcard, is_unshared, may_name, number_of, speaks_of};
+ghost use Rattle.mention_scan.specs.Mentions.{after_bar, before_bar, has_bar, is_channel_wildcard, is_group_named, is_named, is_topic_wildcard, is_unshared, may_name, speaks_of};
 
-use chat_model::{GroupName, UserName};
-
-/// How many digits a number has at most, so that it fits its type.
-const MOST_DIGITS: usize = 19;
+use chat_model::{GroupName, UserName, number_of};
 
 /// Whether the Inner is a word for all of a channel.
 pub fn is_channel_wildcard(inner: &[u8]) -> bool
@@ -82,21 +79,4 @@ fn last_bar(inner: &[u8]) -> Option<usize>
         }
     }
     None
-}
-
-/// The number that one to nineteen digits write.
-fn number_of(digits: &[u8]) -> Option<u64>
-    ensures { result ≡ number_of digits.now }
-{
-    if digits.is_empty() || digits.len() > MOST_DIGITS {
-        return None;
-    }
-    let mut value = 0;
-    for digit in digits {
-        if !digit.is_ascii_digit() {
-            return None;
-        }
-        value = 10 * value + u64::from(*digit - b'0');
-    }
-    Some(value)
 }

@@ -1,12 +1,16 @@
 //! What a text mentions.
-ghost use Rattle.std.specs.Prelude.{◌≡◌, ◌&&◌, All, map, filter, IfOk};
+ghost use Rattle.std.specs.Prelude.{◌≡◌, ◌&&◌, true, All, map, filter, IfOk};
 ghost use Rattle.std.specs.List.{list_any};
+ghost use Rattle.chat_model.specs.Ascending.{is_ascending_by};
 ghost use Rattle.mention_scan.specs.Division.{LiesWithin, spans_of};
-ghost use Rattle.mention_scan.specs.Mentions.{KeepsAscending, inner_of, is_channel_wildcard, is_group_named, is_group_span, is_topic_wildcard, is_user_span, may_name, mentions, speaks_of};
+ghost use Rattle.mention_scan.specs.Mentions.{inner_of, is_channel_wildcard, is_group_named, is_group_span, is_topic_wildcard, is_user_span, may_name, mentions, speaks_of};
 
 use crate::Span;
 use crate::inner::{is_channel_wildcard, is_group_named, is_topic_wildcard, may_name, speaks_of};
-use chat_model::{GroupId, GroupName, List, Mentions, OutOfMemory, UserId, UserName};
+use chat_model::{
+    GroupId, GroupName, List, Mentions, OutOfMemory, UserId, UserName, ascending_groups,
+    ascending_users,
+};
 use std::alloc::Global;
 
 /// What the spans of a text mention, with these users and groups.
@@ -19,14 +23,15 @@ pub fn resolve(
 ) -> Result<Mentions, OutOfMemory>
     requires spans_of_the_text { spans.now ≡ spans_of text.now }
     ensures mentions { IfOk result (λ m. m ≡ mentions text.now users.now groups.now) }
-    ensures ascending { IfOk result (λ m. KeepsAscending users.now groups.now m) }
+    ensures ascending_users { IfOk result (λ m. is_ascending_by (λ u. u.0) m.users ≡ true) }
+    ensures ascending_groups { IfOk result (λ m. is_ascending_by (λ g. g.0) m.groups ≡ true) }
 {
     let naming = naming_spans(alloc, text, spans, users)?;
     let users = named_users(alloc, text, naming.as_slice(), users)?;
     let groups = named_groups(alloc, text, spans, groups)?;
     Ok(Mentions {
-        users,
-        groups,
+        users: ascending_users(users),
+        groups: ascending_groups(groups),
         channel_wildcard: has_channel_wildcard(text, spans),
         topic_wildcard: has_topic_wildcard(text, spans),
     })

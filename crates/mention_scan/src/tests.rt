@@ -54,7 +54,7 @@ const ROWS: [Row; 17] = [
 ];
 
 /// Fences: how they open, what closes them, and what stands in them.
-const FENCES: [Row; 20] = [
+const FENCES: [Row; 21] = [
     // closed by a longer run, behind which spaces may stand
     (
         "```\n@**Ada**\n`````  \n@**Ada**",
@@ -68,6 +68,8 @@ const FENCES: [Row; 20] = [
     ("```\n~~~\n@**Ada**", &[], &[], &[], NONE),
     // nor does a run behind which a word stands
     ("```\n``` a\n@**Ada**", &[], &[], &[], NONE),
+    // nor one before which spaces stand
+    ("```\n  ```\n@**Ada**", &[], &[], &[], NONE),
     // closed by the end of the text
     ("```", &[], &[], &[], NONE),
     ("```\n@**Ada**\n\n@*ops*", &[], &[], &[], NONE),
@@ -135,7 +137,7 @@ const FENCES: [Row; 20] = [
 ];
 
 /// Code within a line, and what may stand before a span.
-const LINES: [Row; 20] = [
+const LINES: [Row; 22] = [
     // a later run of exactly as many backquotes
     ("`` @**Ada** ` ``@*ops*", &[], &[], &[], NONE),
     (
@@ -145,6 +147,8 @@ const LINES: [Row; 20] = [
         &[1],
         NONE,
     ),
+    // a longer one doesn't end the code
+    ("` @**Ada** ``", &[(2, 10, false, false)], &[1], &[], NONE),
     // the nearest one
     (
         "` ` @**Ada** ` `",
@@ -209,6 +213,8 @@ const LINES: [Row; 20] = [
     ("@**Ada***", &[(0, 8, false, false)], &[1], &[], NONE),
     ("@_*ops*", &[(0, 7, true, true)], &[], &[], NONE),
     ("> a\n@**Ada**", &[(4, 12, false, false)], &[1], &[], NONE),
+    // a line that begins with a space isn't quoted
+    (" > @**Ada**", &[(3, 11, false, false)], &[1], &[], NONE),
 ];
 
 /// Whom an Inner mentions.
@@ -256,6 +262,33 @@ const INNERS: [Row; 13] = [
     ),
 ];
 
+/// The words of the channel wildcard beside `all`, and wildcards that are silent.
+const WILDCARDS: [Row; 5] = [
+    (
+        "@**everyone**",
+        &[(0, 13, false, false)],
+        &[],
+        &[],
+        (true, false),
+    ),
+    (
+        "@**channel**",
+        &[(0, 12, false, false)],
+        &[],
+        &[],
+        (true, false),
+    ),
+    (
+        "@**stream**",
+        &[(0, 11, false, false)],
+        &[],
+        &[],
+        (true, false),
+    ),
+    ("@_**all**", &[(0, 9, true, false)], &[], &[], NONE),
+    ("> @**all**", &[(2, 10, true, false)], &[], &[], NONE),
+];
+
 /// How many characters the long text has, and how many backquotes its longest run.
 const LONG_TEXT: usize = 10_000;
 
@@ -279,6 +312,11 @@ fn lines_with_code(rt: HostRuntime) -> Result<(), Fail> {
 #[test]
 fn names_and_numbers(rt: HostRuntime) -> Result<(), Fail> {
     rows_hold(&rt, rt.alloc(), &INNERS)
+}
+
+#[test]
+fn wildcards_by_each_word_and_silent_ones(rt: HostRuntime) -> Result<(), Fail> {
+    rows_hold(&rt, rt.alloc(), &WILDCARDS)
 }
 
 /// A user may be named like a wildcard in other letters.

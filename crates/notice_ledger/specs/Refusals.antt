@@ -21,8 +21,8 @@ unfoldable pub is_blank : List ℕ → Bool
 is_blank text = list_all is_whitespace (chars text)
 
 -- a character that no name has: a control character or one of * | @ \ > " and a backquote
-abbrev pub is_unnamable : ℕ → Bool
-is_unnamable c =
+abbrev pub is_forbidden : ℕ → Bool
+is_forbidden c =
     is_control c || c == byte "*" || c == byte "|" || c == byte "@" || c == byte "\\" || c == byte ">" || c == byte "\"" || c == byte "`"
 
 -- the name begins or ends with a space
@@ -31,7 +31,7 @@ has_outer_space name = slice_index name 0 == byte " " || slice_index name (lengt
 
 -- the name is empty, begins or ends with a space, or has a character that no name has
 unfoldable pub is_bad_name : List ℕ → Bool
-is_bad_name name = length name == 0 || has_outer_space name || list_any is_unnamable (chars name)
+is_bad_name name = length name == 0 || has_outer_space name || list_any is_forbidden (chars name)
 
 -- one of the names is this one without ASCII case
 unfoldable pub is_taken : List (List ℕ) → List ℕ → Bool

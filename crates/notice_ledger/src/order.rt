@@ -1,8 +1,8 @@
 //! The order of a request's lists.
 ghost use Rattle.std.specs.Prelude.{◌≡◌};
-ghost use Rattle.notice_ledger.specs.InOrder.{ascending_once, in_order};
+ghost use Rattle.notice_ledger.specs.InOrder.{in_order};
 
-use chat_model::{List, Request, UserId};
+use chat_model::{Request, ascending_users};
 
 /// The request with its lists ascending, once each, as its event keeps them. It takes no memory.
 pub fn in_order(request: Request) -> Request
@@ -11,18 +11,8 @@ pub fn in_order(request: Request) -> Request
     match request {
         Request::AddGroup { name, members } => Request::AddGroup {
             name,
-            members: ascending_once(members),
+            members: ascending_users(members),
         },
         other => other,
     }
-}
-
-/// The users ascending, once each.
-fn ascending_once(users: List<UserId>) -> List<UserId>
-    ensures { result ≡ ascending_once users }
-{
-    let mut users = users.into_vec();
-    users.sort_unstable();
-    users.dedup();
-    List::from(users)
 }

@@ -1,7 +1,7 @@
 //! The rules that look at a text alone.
 ghost use Rattle.std.specs.Prelude.{◌≡◌, chars};
 ghost use Rattle.std.specs.List.{list_any};
-ghost use Rattle.notice_ledger.specs.Refusals.{has_outer_space, is_bad_name, is_blank, is_longer_than, is_unnamable};
+ghost use Rattle.notice_ledger.specs.Refusals.{has_outer_space, is_bad_name, is_blank, is_forbidden, is_longer_than};
 
 /// Whether the text has more than so many characters, which are Unicode scalar values and not bytes: the cause of
 /// `TextTooLong`, `TopicTooLong` and `NameTooLong`.
@@ -24,10 +24,9 @@ pub fn is_blank(text: &str) -> bool
 pub fn is_bad_name(name: &str) -> bool
     ensures { result ≡ is_bad_name name.now }
 {
-    name.is_empty() || has_outer_space(name.as_bytes()) || has_unnamable(name)
+    name.is_empty() || has_outer_space(name.as_bytes()) || has_forbidden(name)
 }
 
-/// Whether the name begins or ends with a space.
 fn has_outer_space(name: &[u8]) -> bool
     ensures { result ≡ has_outer_space name.now }
 {
@@ -35,15 +34,15 @@ fn has_outer_space(name: &[u8]) -> bool
 }
 
 /// Whether the name has a character that no name has.
-fn has_unnamable(name: &str) -> bool
-    ensures { result ≡ list_any is_unnamable (chars name.now) }
+fn has_forbidden(name: &str) -> bool
+    ensures { result ≡ list_any is_forbidden (chars name.now) }
 {
-    name.chars().any(|c| is_unnamable(c))
+    name.chars().any(|c| is_forbidden(c))
 }
 
 /// Whether no name has this character.
-fn is_unnamable(c: char) -> bool
-    ensures { result ≡ is_unnamable c }
+fn is_forbidden(c: char) -> bool
+    ensures { result ≡ is_forbidden c }
 {
     c.is_control() || matches!(c, '*' | '|' | '@' | '\\' | '>' | '"' | '`')
 }

@@ -1,13 +1,11 @@
 -- Steps of the readers of fields.
-use Rattle.std.proofs.Common.{◌≡◌, ◌≢◌, ℕ, ◌+◌, ◌-◌, ◌*◌, ◌^◌, ◌<◌, ◌≤◌, Bool, true, false, cond, eqb, ltb, ◌&&◌, List, [], ◌∷◌, length, drop, get_or, Option, Some, None, refl, sym, ap, ◌∙◌, arith, fold}
+use Rattle.std.proofs.Common.{◌≡◌, ◌≢◌, ℕ, ◌+◌, ◌<◌, ◌≤◌, Bool, true, false, cond, eqb, ltb, ◌&&◌, List, [], ◌∷◌, length, drop, get_or, Option, Some, None, refl, sym, ap, ◌∙◌, arith}
 use Rattle.std.specs.Option.{option_map}
-use Rattle.std.specs.List.{list_all}
-use Rattle.std.proofs.lemmas.Bool.{ne_eqb, le-leb, ltb-true}
-use Rattle.std.proofs.Math.Nat.{pow-le-pow_right}
+use Rattle.std.proofs.lemmas.Bool.{ne_eqb, ltb-true}
 use Rattle.std.proofs.lemmas.Bool.Decides.{nat_tests}
 use Rattle.std.proofs.lemmas.List.{at_drop_more, drop_more, drop_all}
 use Rattle.std.proofs.lemmas.List.Sums.{prefix_len-drop_yes, prefix_len-drop_no, prefix_len-drop_all}
-use Rattle.notifyd.specs.Field.{run_end, quoted_len, is_escape, begins_escape, is_digit, decimal_value, number_of}
+use Rattle.notifyd.specs.Field.{run_end, quoted_len, is_escape, begins_escape}
 
 pub run_end-passing : (test : ℕ → Bool) (line : List ℕ) (place : ℕ) → place < length line → test (get_or line place 0) ≡ true → run_end test line (place + 1) ≡ run_end test line place
 unfolding run_end
@@ -20,16 +18,6 @@ run_end-here test line place within fails = omega (arith, prefix_len-drop_no tes
 pub run_end-past : (test : ℕ → Bool) (line : List ℕ) (place : ℕ) → length line ≤ place → run_end test line place ≡ place
 unfolding run_end
 run_end-past test line place past = omega (arith, prefix_len-drop_all test line place past)
-
--- the number of these digits behind that value; none where one isn't a digit
-abbrev pub number_from : ℕ → List ℕ → Option ℕ
-number_from value [] = Some value
-number_from value (digit ∷ digits) = cond (is_digit digit) (number_from (10 * value + (digit - 48)) digits) None
-
-pub number_from-digits : (value : ℕ) (digits : List ℕ) → number_from value digits ≡ cond (list_all is_digit digits) (Some (fold (λ before digit. 10 * before + (digit - 48)) value digits)) None
-number_from-digits value [] = refl
-number_from-digits value (digit ∷ digits) =
-    elim (is_digit digit) as (λ b. cond b (number_from (10 * value + (digit - 48)) digits) None ≡ cond (b && list_all is_digit digits) (Some (fold (λ before d. 10 * before + (d - 48)) (10 * value + (digit - 48)) digits)) None) [ true ↦ number_from-digits (10 * value + (digit - 48)) digits | false ↦ refl ]
 
 -- a quote ends a text
 quoted_len-quote : (rest : List ℕ) → quoted_len (34 ∷ rest) ≡ Some 0
@@ -117,13 +105,3 @@ quoted_len-bad_escape bytes at within is begins = by (ltb (at + 1) (length bytes
     by false e =
         let past : length bytes ≤ at + 1 = grind (arith, nat_tests) in
         at_drop_more quoted_len bytes at 0 within ∙ ap (λ b. quoted_len (b ∷ drop (at + 1) bytes)) is ∙ ap (λ rest. quoted_len (92 ∷ rest)) (drop_all (at + 1) bytes past) ∙ quoted_len-last
-
-pub below_power : (value index : ℕ) → value < 10 ^ index → index ≤ 18 → value < 10 ^ 18
-below_power value index below most =
-    let powers : 10 ^ index ≤ 10 ^ 18 = pow-le-pow_right (omega arith) most in
-    omega arith
-
-pub number_of-small : (word : List ℕ) → 1 ≤ length word → length word ≤ 19 → number_of word ≡ number_from 0 word
-unfolding number_of decimal_value
-number_of-small word least most =
-    rw (le-leb 1 (length word) least, le-leb (length word) 19 most) (sym (number_from-digits 0 word))

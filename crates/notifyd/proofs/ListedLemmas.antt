@@ -3,7 +3,8 @@ use Rattle.std.proofs.Common.{◌≡◌, ℕ, Bool, true, false, cond, ◌&&◌,
 use Rattle.std.specs.Option.{option_map, unwrap_or}
 use Rattle.std.specs.List.{list_all, filter_map, cons_option}
 use Rattle.chat_model.specs.declared.ids.UserId.{UserId}
-use Rattle.notifyd.specs.Field.{is_number, number_of, decimal_value, parts_of, numbers_of, list_of}
+use Rattle.chat_model.specs.Number.{decimal_value, is_number, number_of}
+use Rattle.notifyd.specs.Field.{parts_of, numbers_of, list_of}
 use Rattle.notifyd.specs.Listed.{users_of}
 use Rattle.notifyd.proofs.FieldLemmas.{both}
 

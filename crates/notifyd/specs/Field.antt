@@ -1,8 +1,9 @@
 -- The fields of a line, and the forms that they may have. A place in a line is the number of bytes before it.
 -- A field is read at a place. It gives its value and the place behind it, or the column at which the line is bad.
-use Rattle.std.specs.Prelude.{ℕ, ◌+◌, ◌-◌, ◌*◌, ◌^◌, ◌==◌, ◌&&◌, ◌||◌, not, Bool, true, false, List, [], ◌∷◌, length, drop, slice_index, slice_range, nat_lt, nat_le, if◌then◌else◌, Option, Some, None, Result, Ok, Err, codes, bytes_eq, fold, map, option_and_then}
+use Rattle.std.specs.Prelude.{ℕ, ◌+◌, ◌^◌, ◌==◌, ◌&&◌, ◌||◌, not, Bool, true, false, List, [], ◌∷◌, length, drop, slice_index, slice_range, nat_lt, nat_le, if◌then◌else◌, Option, Some, None, Result, Ok, Err, codes, bytes_eq, map, option_and_then}
 use Rattle.std.specs.Option.{option_map, ok_or}
 use Rattle.std.specs.List.{prefix_len, list_all, slice_split}
+use Rattle.chat_model.specs.Number.{decimal_value, is_number, number_of}
 
 -- bytes counted from 1: the column of a place
 abbrev pub column_of : ℕ → ℕ
@@ -37,22 +38,6 @@ unfoldable pub word_field : {A : Type 0} → (List ℕ → Option A) → List �
 word_field form line place =
     let start = field_start line place in
     ok_or (option_map (λ value. (value, word_end line start)) (form (word_at line start))) (column_of start)
-
--- a decimal digit
-abbrev pub is_digit : ℕ → Bool
-is_digit byte = nat_le 48 byte && nat_le byte 57
-
--- the number that decimal digits write
-unfoldable pub decimal_value : List ℕ → ℕ
-decimal_value digits = fold (λ value digit. 10 * value + (digit - 48)) 0 digits
-
--- one to nineteen digits
-abbrev pub is_number : List ℕ → Bool
-is_number word = nat_le 1 (length word) && nat_le (length word) 19 && list_all is_digit word
-
--- a number
-unfoldable pub number_of : List ℕ → Option ℕ
-number_of word = if is_number word then Some (decimal_value word) else None
 
 -- what stands between the commas of a word
 abbrev pub parts_of : List ℕ → List (List ℕ)

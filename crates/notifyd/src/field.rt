@@ -1,10 +1,11 @@
 //! The fields of a line. A place in a line is the number of bytes before it.
 ghost use Rattle.std.specs.Prelude.{◌≡◌, ℕ, ◌+◌, ◌*◌, ◌^◌, ◌<◌, ◌≤◌, ◌==◌, not, length, drop, slice_index, slice_range, IfOk, IfErr, IfSome, MatchOption, MatchResult, IsUtf8, Ok, Err, Some, None, option_and_then};
+ghost use Rattle.chat_model.specs.Number.{number_of};
 ghost use Rattle.notifyd.specs.Quoted.{IsTextAt, text_at};
-ghost use Rattle.notifyd.specs.Field.{column_of, is_space, is_no_space, run_end, field_start, word_end, word_at, word_field, number_of, moment_of, switch_of, quoted_len, unescaped, is_escape, begins_escape, ends_field, string_len, string_text, string_field, line_end};
+ghost use Rattle.notifyd.specs.Field.{column_of, is_space, is_no_space, run_end, field_start, word_end, word_at, word_field, moment_of, switch_of, quoted_len, unescaped, is_escape, begins_escape, ends_field, string_len, string_text, string_field, line_end};
 
 use crate::line::{Column, MAX_LINE};
-use chat_model::Moment;
+use chat_model::{Moment, number_of};
 
 /// Where the bytes of a string field stand, between its quotes.
 #[derive(Clone, Copy, Debug, PartialEq, Eq)]
@@ -106,24 +107,6 @@ pub fn switch_field(line: &[u8], place: usize) -> Result<(bool, usize), Column>
         Some(value) => Ok((value, end)),
         None => Err(column_of(start)),
     }
-}
-
-/// The number that one to nineteen digits write.
-#[tactic(auto, unfolding(crate::specs::Field::number_of))]
-pub fn number_of(word: &[u8]) -> Option<u64>
-    ensures { result ≡ number_of word.now }
-{
-    if word.is_empty() || word.len() > 19 {
-        return None;
-    }
-    let mut value = 0;
-    for digit in word {
-        if !digit.is_ascii_digit() {
-            return None;
-        }
-        value = 10 * value + u64::from(*digit - b'0');
-    }
-    Some(value)
 }
 
 #[tactic(auto, unfolding(crate::specs::Field::moment_of))]

@@ -84,10 +84,10 @@ fn read_content(alloc: Global, line: &[u8]) -> Result<Line, LineFault>
 fn is_nothing(line: &[u8]) -> bool
     ensures { result ≡ is_nothing line.now }
 {
-    is_blank(line) || line[0] == b'#'
+    has_only_spaces(line) || line[0] == b'#'
 }
 
-fn is_blank(line: &[u8]) -> bool
+fn has_only_spaces(line: &[u8]) -> bool
     ensures { result ≡ list_all is_space line.now }
 {
     line.iter().all(|byte| *byte == b' ')

@@ -1,12 +1,13 @@
 //! The lists of numbers in a line.
 ghost use Rattle.std.specs.Prelude.{◌≡◌, ◌≤◌, length, is_some, IfOk, IfErr, Ok, Err};
 ghost use Rattle.std.specs.List.{list_all};
-ghost use Rattle.notifyd.specs.Field.{is_number, list_of, parts_of, word_field};
+ghost use Rattle.chat_model.specs.Number.{is_number};
+ghost use Rattle.notifyd.specs.Field.{list_of, parts_of, word_field};
 ghost use Rattle.notifyd.specs.Listed.{IsListAt, numbers_at, users_at};
 
-use crate::field::{column_of, field_start, number_of, word_end};
+use crate::field::{column_of, field_start, word_end};
 use crate::line::{Column, MAX_LINE};
-use chat_model::{List, OutOfMemory, UserId};
+use chat_model::{List, OutOfMemory, UserId, number_of};
 use std::alloc::Global;
 
 /// Where the bytes of a list stand.

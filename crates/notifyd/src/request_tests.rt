@@ -115,6 +115,35 @@ fn a_list_may_have_10000_items(rt: HostRuntime) -> Result<(), Fail> {
 }
 
 #[test]
+fn of_two_broken_rules_the_smaller_number_is_answered(rt: HostRuntime) -> Result<(), Fail> {
+    let alloc = rt.alloc();
+    let mut script = Vec::from_slice(alloc, OPENING.as_bytes())?;
+    script.extend_from_slice(b"group \"ops\" -\ngroup \"OPS\" 9\nmember 4 9 on\n")?;
+    script.extend_from_slice(b"sub 2 1 off\nsend 2 1 \"a\" \"  \"\n")?;
+    push_group(&mut script, "OPS", 10_000)?;
+    push_send(&mut script, " ", 1, 10_001)?;
+    push_user(&mut script, "*", 101)?;
+    let answers =
+        "group 1\nrefused 10\nrefused 10\nok\nrefused 16\nrefused 14\nrefused 17\nrefused 24\n";
+    let written = format!(in alloc; "{OPENED}{answers}")?;
+    expect_run(&rt, List::from(script), 4_096, &NEVER, written.as_str(), 0)
+}
+
+#[test]
+fn names_of_groups_and_channels_are_judged_as_those_of_users(rt: HostRuntime) -> Result<(), Fail> {
+    let alloc = rt.alloc();
+    let mut script = Vec::from_slice(alloc, OPENING.as_bytes())?;
+    script.extend_from_slice(b"group \"")?;
+    push_times(&mut script, "x", 101)?;
+    script.extend_from_slice(b"\" 1\ngroup \"a*b\" 1\nchannel \"")?;
+    push_times(&mut script, "x", 101)?;
+    script.extend_from_slice(b"\"\nchannel \"a*b\"\n")?;
+    let answers = "refused 24\nrefused 25\nrefused 24\nrefused 25\n";
+    let written = format!(in alloc; "{OPENED}{answers}")?;
+    expect_run(&rt, List::from(script), 4_096, &NEVER, written.as_str(), 0)
+}
+
+#[test]
 fn a_group_of_the_sender_alone_owes_nothing(rt: HostRuntime) -> Result<(), Fail> {
     let alloc = rt.alloc();
     let answers = format!(in alloc; "group 1\nok\nok\nsent 1 deal 0\n{NOTHING_OWED}")?;

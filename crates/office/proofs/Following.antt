@@ -182,7 +182,7 @@ module _ (t : Tables) (j : List Stamped) (stands : StandsFor t j) where
   owed_to : (at : ℕ) (sender : UserId) (channel : ChannelId) (topic text : List ℕ) (u : UserId) →
       let s : Stamped = record { at = at; event = Asked (Send sender channel topic text) } in
       let m : SentMessage = record { past = j; sender = sender; channel = channel; topic = topic; text = text } in
-      map notice_kept (filter_map (notice_of (occurrence j s) m u) (Mail ∷ Push ∷ [])) ≡ (if notifies t sender channel (mentions_in t text) u then next_notice t at (mentions_in t text) u Mail ∷ next_notice t at (mentions_in t text) u Push ∷ [] else [])
+      map notice_kept (filter_map (notice_of (occurrence j s) m u) (Mail ∷ Push ∷ [])) ≡ (if notifies t sender channel (mentions_in t text) u then next_notice t at (via_in t (mentions_in t text) u) u Mail ∷ next_notice t at (via_in t (mentions_in t text) u) u Push ∷ [] else [])
   owed_to at sender channel topic text u =
       let s : Stamped = record { at = at; event = Asked (Send sender channel topic text) } in
       let m : SentMessage = record { past = j; sender = sender; channel = channel; topic = topic; text = text } in
@@ -197,7 +197,7 @@ module _ (t : Tables) (j : List Stamped) (stands : StandsFor t j) where
       } in n) o in
       ap (λ o. map notice_kept (cons_option (one Mail o) (cons_option (one Push (trigger m u Push)) []))) (trigger-notifies sender channel topic text u Mail)
       ∙ (ap (λ o. map notice_kept (cons_option (one Mail (if notifies t sender channel (mentions_in t text) u then Some Mention else None)) (cons_option (one Push o) []))) (trigger-notifies sender channel topic text u Push)
-      ∙ (elim (notifies t sender channel (mentions_in t text) u) as (λ b. map notice_kept (cons_option (one Mail (if b then Some Mention else None)) (cons_option (one Push (if b then Some Mention else None)) [])) ≡ (if b then next_notice t at (mentions_in t text) u Mail ∷ next_notice t at (mentions_in t text) u Push ∷ [] else [])) [
+      ∙ (elim (notifies t sender channel (mentions_in t text) u) as (λ b. map notice_kept (cons_option (one Mail (if b then Some Mention else None)) (cons_option (one Push (if b then Some Mention else None)) [])) ≡ (if b then next_notice t at (via_in t (mentions_in t text) u) u Mail ∷ next_notice t at (via_in t (mentions_in t text) u) u Push ∷ [] else [])) [
         | true ↦ ap (both (length (messages j) + 1) (deal_count j)) (sym (via_in-came_by sender channel topic text u))
             ∙ (ap (λ n. both (n + 1) (deal_count j) (via_in t (mentions_in t text) u)) (sym messages_long)
             ∙ ap (λ d. both (length t.messages.items + 1) d (via_in t (mentions_in t text) u)) (deal_count-messages j ∙ sym messages_long))
@@ -216,7 +216,7 @@ module _ (t : Tables) (j : List Stamped) (stands : StandsFor t j) where
   new_notices-owed at sender channel topic text =
       let s : Stamped = record { at = at; event = Asked (Send sender channel topic text) } in
       let m : SentMessage = record { past = j; sender = sender; channel = channel; topic = topic; text = text } in
-      let to = λ (u : UserId). if notifies t sender channel (mentions_in t text) u then next_notice t at (mentions_in t text) u Mail ∷ next_notice t at (mentions_in t text) u Push ∷ [] else [] in
+      let to = λ (u : UserId). if notifies t sender channel (mentions_in t text) u then next_notice t at (via_in t (mentions_in t text) u) u Mail ∷ next_notice t at (via_in t (mentions_in t text) u) u Push ∷ [] else [] in
       sym (flat_map-map to (λ (n : UserName). n.id) t.names.items)
       ∙ (ap (flat_map to) (ap (map (λ (n : UserName). n.id)) stands.names ∙ ids-user_names j)
       ∙ (sym (flat_map-same (λ u. map notice_kept (filter_map (notice_of (occurrence j s) m u) (Mail ∷ Push ∷ []))) to (owed_to at sender channel topic text) (users j))

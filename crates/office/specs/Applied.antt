@@ -1,5 +1,5 @@
 -- What an effect leaves in the tables, and the room that it needs.
-use Rattle.std.specs.Prelude.{◌≡◌, ℕ, ◌+◌, ◌<◌, ◌≤◌, Bool, not, List, [], ◌∷◌, ◌++◌, IfSome, filter, map, vec_len, vec_capacity}
+use Rattle.std.specs.Prelude.{◌≡◌, ℕ, ◌+◌, ◌<◌, ◌≤◌, Bool, true, not, List, [], ◌∷◌, ◌++◌, IfSome, filter, map, vec_len, vec_capacity}
 use Rattle.chat_model.specs.declared.entry.Entry.{Entry}
 use Rattle.chat_model.specs.declared.ids.UserId.{UserId}
 use Rattle.chat_model.specs.declared.mentions.UserName.{UserName}
@@ -73,14 +73,14 @@ pub record IsApplied (old new : Tables) (e : Effect) : Type 0 where
   pub waiting : new.waiting.items ≡ waiting_after e old.waiting.items
   pub outbox : new.outbox.items ≡ outbox_after e old.outbox.items
 
--- the tables have room for the effect
+-- the tables have room for the effect: a user who leaves a set needs none
 abbrev pub HasRoom : Tables → Effect → Type 0
 HasRoom t effect.Nothing = Unit {0}
 HasRoom t (effect.User user bot) = (vec_len t.names < vec_capacity t.names) × (vec_len t.bots < vec_capacity t.bots)
 HasRoom t (effect.Group group members) = (vec_len t.groups < vec_capacity t.groups) × (vec_len t.members < vec_capacity t.members)
-HasRoom t (effect.Membership group user on) = IfSome (numbered group.0 t.members.items) HasPlace
+HasRoom t (effect.Membership group user on) = on ≡ true → IfSome (numbered group.0 t.members.items) HasPlace
 HasRoom t (effect.Channel name) = (vec_len t.channels < vec_capacity t.channels) × (vec_len t.subscribers < vec_capacity t.subscribers)
-HasRoom t (effect.Subscription channel user on) = IfSome (numbered channel.0 t.subscribers.items) HasPlace
+HasRoom t (effect.Subscription channel user on) = on ≡ true → IfSome (numbered channel.0 t.subscribers.items) HasPlace
 HasRoom t (effect.Message message waiting) =
     (vec_len t.messages < vec_capacity t.messages) × (vec_len t.waiting + vec_len waiting ≤ vec_capacity t.waiting)
 HasRoom t (effect.Mailed user entries) = vec_len t.outbox + vec_len entries ≤ vec_capacity t.outbox

@@ -69,14 +69,14 @@ smallest_in t groups u = reduce (smaller_in t) (filter (λ g. has_in t.members.i
 abbrev pub via_in : Tables → Mentions → UserId → Option GroupId
 via_in t mentioned u = if is_one_of mentioned.users u then None else smallest_in t mentioned.groups u
 
--- a notice of the next message
-abbrev pub next_notice : Tables → ℕ → Mentions → UserId → Way → Waiting
-next_notice t at mentioned u way = record {
+-- a notice of the next message, which came by this group, or by name
+abbrev pub next_notice : Tables → ℕ → Option GroupId → UserId → Way → Waiting
+next_notice t at via u way = record {
   user = u;
   message = record { 0 = length t.messages.items + 1 };
   way = way;
   trigger = Mention;
-  via = via_in t mentioned u;
+  via = via;
   deal = record { 0 = length t.messages.items };
   ready = at;
 }
@@ -84,7 +84,7 @@ next_notice t at mentioned u way = record {
 -- the notices that the next message owes: by user, mail before push
 abbrev pub new_notices : Tables → ℕ → UserId → ChannelId → Mentions → List Waiting
 new_notices t at sender channel mentioned =
-    flat_map (λ name. if notifies t sender channel mentioned name.id then next_notice t at mentioned name.id Mail ∷ next_notice t at mentioned name.id Push ∷ [] else []) t.names.items
+    flat_map (λ name. if notifies t sender channel mentioned name.id then next_notice t at (via_in t mentioned name.id) name.id Mail ∷ next_notice t at (via_in t mentioned name.id) name.id Push ∷ [] else []) t.names.items
 
 -- the changes of the rows that an event at a stamp brings
 abbrev pub changes_in : Tables → ℕ → Event → List RowChange

@@ -4,7 +4,7 @@ ghost use Rattle.office.specs.Applied.{IsApplied, HasRoom};
 
 use crate::prepared::Effect;
 use crate::tables::Tables;
-use crate::user_set::{UserSet, change, reserve_place};
+use crate::user_set::{UserSet, change_set, reserve_in_set};
 use chat_model::OutOfMemory;
 
 impl Tables {
@@ -25,14 +25,16 @@ impl Tables {
                 self.members.reserve(1)?;
                 Ok(())
             }
-            Effect::Membership { group, .. } => reserve_place(&mut self.members, group.0),
+            Effect::Membership { group, on, .. } => {
+                reserve_in_set(&mut self.members, group.0, *on)
+            }
             Effect::Channel { .. } => {
                 self.channels.reserve(1)?;
                 self.subscribers.reserve(1)?;
                 Ok(())
             }
-            Effect::Subscription { channel, .. } => {
-                reserve_place(&mut self.subscribers, channel.0)
+            Effect::Subscription { channel, on, .. } => {
+                reserve_in_set(&mut self.subscribers, channel.0, *on)
             }
             Effect::Message { waiting, .. } => {
                 self.messages.reserve(1)?;
@@ -64,7 +66,7 @@ impl Tables {
                 return;
             }
             Effect::Membership { group, user, on } => {
-                change(&mut self.members, group.0, user, on);
+                change_set(&mut self.members, group.0, user, on);
                 return;
             }
             Effect::Channel { name } => {
@@ -74,7 +76,7 @@ impl Tables {
                 return;
             }
             Effect::Subscription { channel, user, on } => {
-                change(&mut self.subscribers, channel.0, user, on);
+                change_set(&mut self.subscribers, channel.0, user, on);
                 return;
             }
             Effect::Message {

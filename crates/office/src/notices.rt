@@ -3,10 +3,10 @@ ghost use Rattle.std.specs.Prelude.{◌≡◌, filter, IfOk};
 ghost use Rattle.std.specs.Option.{option_map_or};
 ghost use Rattle.std.specs.List.{list_any};
 ghost use Rattle.chat_model.specs.declared.trigger.Trigger.TheVariants.{Mention};
-ghost use Rattle.office.specs.UserSets.{has_in};
+ghost use Rattle.office.specs.UserSets.{has_in, size_in};
 
 use crate::tables::{Tables, Waiting, item_at};
-use crate::user_set::{is_among, is_in, size};
+use crate::user_set::{is_among, is_in_set, size_of_set};
 use chat_model::{
     ChannelId, DealNo, GroupId, Mentions, MessageId, Moment, OutOfMemory, Text, Trigger, UserId,
     Way,
@@ -28,7 +28,7 @@ impl Tables {
     fn is_member(&self, group: GroupId, user: UserId) -> bool
         ensures { result ≡ has_in self.now.members.items group.0 user }
     {
-        is_in(&self.members, group.0, user)
+        is_in_set(&self.members, group.0, user)
     }
 
     /// Whether the user is a member of one of these groups.
@@ -56,10 +56,16 @@ impl Tables {
     ) -> bool
         ensures { result ≡ notifies self.now sender channel mentioned.now user }
     {
-        is_in(&self.subscribers, channel.0, user)
+        is_in_set(&self.subscribers, channel.0, user)
             && user.0 != sender.0
             && !self.is_bot(user)
             && self.is_mentioned(mentioned, user)
+    }
+
+    fn group_size(&self, group: GroupId) -> usize
+        ensures { result ≡ size_in self.now.members.items group.0 }
+    {
+        size_of_set(&self.members, group.0)
     }
 
     /// Of two groups the one with fewer members, and at a tie the first.
@@ -67,7 +73,7 @@ impl Tables {
         ensures { result ≡ option_map_or (λ g. smaller_in self.now g next) first next }
     {
         match first {
-            Some(first) if size(&self.members, first.0) <= size(&self.members, next.0) => first,
+            Some(first) if self.group_size(first) <= self.group_size(next) => first,
             _ => next,
         }
     }
@@ -96,15 +102,15 @@ impl Tables {
     }
 
     /// A notice of the next message, ready at this stamp.
-    fn notice(&self, at: Moment, mentioned: &Mentions, user: UserId, way: Way) -> Waiting
-        ensures { result ≡ next_notice self.now at mentioned.now user way }
+    fn notice(&self, at: Moment, via: Option<GroupId>, user: UserId, way: Way) -> Waiting
+        ensures { result ≡ next_notice self.now at via user way }
     {
         Waiting {
             user,
             message: MessageId(self.messages.len() as u64 + 1),
             way,
             trigger: Trigger::Mention,
-            via: self.via(mentioned, user),
+            via,
             deal: DealNo(self.messages.len() as u64),
             ready: at,
         }
@@ -124,8 +130,9 @@ impl Tables {
         for name in &self.names {
             let user = name.id;
             if self.notifies(sender, channel, mentioned, user) {
-                waiting.push(self.notice(at, mentioned, user, Way::Mail))?;
-                waiting.push(self.notice(at, mentioned, user, Way::Push))?;
+                let via = self.via(mentioned, user);
+                waiting.push(self.notice(at, via, user, Way::Mail))?;
+                waiting.push(self.notice(at, via, user, Way::Push))?;
             }
         }
         Ok(waiting)

@@ -1,21 +1,19 @@
 //! Why a request is refused: its rules are tested in the order of the refusals' numbers.
-ghost use Rattle.std.specs.Prelude.{◌≡◌, true};
+ghost use Rattle.std.specs.Prelude.{◌≡◌, Bool};
 ghost use Rattle.std.specs.List.{list_all};
 ghost use Rattle.notice_ledger.specs.Refusals.{first_broken, name_rules, longest_text, longest_topic, longest_name, most_items};
 ghost use Rattle.office.specs.Tables.{has_user, is_taken_group, is_taken_channel, refusal_in};
 
 use crate::tables::Tables;
-use crate::user_set::{is_in, size};
+use crate::user_set::{is_in_set, size_of_set};
 use chat_model::{ChannelId, GroupId, Refusal, Request, UserId};
 use notice_ledger::{is_bad_name, is_blank, is_longer_than};
 
-/// How many characters a text may have.
+// In characters.
 const LONGEST_TEXT: usize = 10_000;
 
-/// How many characters a topic may have.
 const LONGEST_TOPIC: usize = 60;
 
-/// How many characters a name may have.
 const LONGEST_NAME: usize = 100;
 
 /// How many items a list of a request may have, and how many subscribers the channel of a send.
@@ -78,7 +76,7 @@ impl Tables {
     }
 
     fn member_refusal(&self, group: GroupId, user: UserId) -> Option<Refusal>
-        ensures { result ≡ refusal_in self.now (Request.Member group user true) }
+        ensures { (on : Bool) → result ≡ refusal_in self.now (Request.Member group user on) }
     {
         if !self.is_user(user) {
             Some(Refusal::NoUser)
@@ -100,7 +98,7 @@ impl Tables {
     }
 
     fn subscription_refusal(&self, user: UserId, channel: ChannelId) -> Option<Refusal>
-        ensures { result ≡ refusal_in self.now (Request.Subscribe user channel true) }
+        ensures { (on : Bool) → result ≡ refusal_in self.now (Request.Subscribe user channel on) }
     {
         if !self.is_user(user) {
             Some(Refusal::NoUser)
@@ -124,7 +122,7 @@ impl Tables {
             Some(Refusal::NoUser)
         } else if !self.is_channel(channel) {
             Some(Refusal::NoChannel)
-        } else if !is_in(&self.subscribers, channel.0, sender) {
+        } else if !is_in_set(&self.subscribers, channel.0, sender) {
             Some(Refusal::NotSubscribed)
         } else if is_blank(text) {
             Some(Refusal::EmptyText)
@@ -132,7 +130,7 @@ impl Tables {
             Some(Refusal::TextTooLong)
         } else if is_longer_than(topic, LONGEST_TOPIC) {
             Some(Refusal::TopicTooLong)
-        } else if size(&self.subscribers, channel.0) > MOST_ITEMS {
+        } else if size_of_set(&self.subscribers, channel.0) > MOST_ITEMS {
             Some(TOO_MANY)
         } else {
             None

@@ -202,6 +202,24 @@ fn a_mention_comes_by_the_smallest_group_of_the_user(rt: HostRuntime) -> Result<
 }
 
 #[test]
+fn a_smaller_group_of_others_does_not_count(rt: HostRuntime) -> Result<(), Fail> {
+    let alloc = rt.alloc();
+    let now = moment(&rt, 100);
+    let mut office = team(&rt, alloc, List::new(alloc))?;
+    let ops = office.ask(group(alloc, "ops", &[1, 2])?, now);
+    assert_eq!(rt; ops, Ok(Answer::Group(GroupId(1))));
+    let smaller = office.ask(group(alloc, "x", &[1])?, now);
+    assert_eq!(rt; smaller, Ok(Answer::Group(GroupId(2))));
+    let sent = office.ask(message(alloc, "@*ops* @*x*")?, now);
+    assert!(rt; sent.is_ok());
+    let mailed = office.mail_turn(moment(&rt, 220));
+    assert!(rt; mailed.is_ok());
+    let groups = groups_of_entries(alloc, office)?;
+    assert_eq!(rt; groups.as_slice(), [1].as_slice());
+    Ok(())
+}
+
+#[test]
 fn a_group_keeps_its_members_ascending_once_each(rt: HostRuntime) -> Result<(), Fail> {
     let alloc = rt.alloc();
     let mut office = team(&rt, alloc, List::new(alloc))?;

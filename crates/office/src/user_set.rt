@@ -1,5 +1,5 @@
 //! Users who stand together, each once: the subscribers of a channel, or the members of a group.
-ghost use Rattle.std.specs.Prelude.{◌≡◌, ◌<◌, map, IfSome, OnOk};
+ghost use Rattle.std.specs.Prelude.{◌≡◌, ◌<◌, true, map, IfSome, OnOk};
 ghost use Rattle.std.specs.Vec.{vec_len, vec_capacity};
 ghost use Rattle.notice_ledger.specs.Values.{numbered, is_one_of};
 ghost use Rattle.office.specs.UserSets.{users_in, has_in, size_in, users_after, changed_numbered, HasPlace};
@@ -21,7 +21,7 @@ pub fn is_among(users: &[UserId], user: UserId) -> bool
 }
 
 /// Whether the user is in the set of a number, from 1.
-pub fn is_in(sets: &[UserSet], number: u64, user: UserId) -> bool
+pub fn is_in_set(sets: &[UserSet], number: u64, user: UserId) -> bool
     ensures { result ≡ has_in sets.now number user }
 {
     match item_at(sets, number) {
@@ -31,7 +31,7 @@ pub fn is_in(sets: &[UserSet], number: u64, user: UserId) -> bool
 }
 
 /// How many users the set of a number has, none where it is not there.
-pub fn size(sets: &[UserSet], number: u64) -> usize
+pub fn size_of_set(sets: &[UserSet], number: u64) -> usize
     ensures { result ≡ size_in sets.now number }
 {
     match item_at(sets, number) {
@@ -40,12 +40,12 @@ pub fn size(sets: &[UserSet], number: u64) -> usize
     }
 }
 
-/// Makes room for one more user in the set of a number, if it is there.
-pub fn reserve_place(sets: &mut [UserSet], number: u64) -> Result<(), OutOfMemory>
+/// Makes room for one more user in the set of a number, if it is there and the user comes.
+pub fn reserve_in_set(sets: &mut [UserSet], number: u64, on: bool) -> Result<(), OutOfMemory>
     ensures users { map users_in sets.new ≡ map users_in sets.old }
-    ensures place { OnOk result (IfSome (numbered number sets.new) HasPlace) }
+    ensures place { OnOk result (on ≡ true → IfSome (numbered number sets.new) HasPlace) }
 {
-    if number == 0 {
+    if number == 0 || !on {
         return Ok(());
     }
     let i = (number - 1) as usize;
@@ -56,8 +56,8 @@ pub fn reserve_place(sets: &mut [UserSet], number: u64) -> Result<(), OutOfMemor
 }
 
 /// Puts the user into the set of a number or takes it out, if the set is there.
-pub fn change(sets: &mut [UserSet], number: u64, user: UserId, on: bool)
-    requires { IfSome (numbered number sets.old) HasPlace }
+pub fn change_set(sets: &mut [UserSet], number: u64, user: UserId, on: bool)
+    requires { on ≡ true → IfSome (numbered number sets.old) HasPlace }
     ensures { map users_in sets.new ≡ changed_numbered number (users_after user on) (map users_in sets.old) }
 {
     if number == 0 {
@@ -72,7 +72,7 @@ pub fn change(sets: &mut [UserSet], number: u64, user: UserId, on: bool)
 
 /// Adds the user or takes it away.
 fn set_user(users: &mut Vec<UserId>, user: UserId, on: bool)
-    requires { vec_len users.old < vec_capacity users.old }
+    requires { on ≡ true → vec_len users.old < vec_capacity users.old }
     ensures { users.new.items ≡ users_after user on users.old.items }
 {
     if !on {

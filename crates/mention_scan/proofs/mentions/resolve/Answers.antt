@@ -1,6 +1,5 @@
 use Rattle.std.proofs.Common.{◌≡◌, ◌∙◌, ◌&&◌, Bool, true, false, refl, List, All, ap, filter, map, sym, subst}
 use Rattle.std.specs.List.{list_any}
-use Rattle.std.specs.List.Sorted.{IsStrictlyIncreasing}
 use Rattle.std.proofs.lemmas.List.Elements.{All-filter, filter_agree}
 use Rattle.chat_model.specs.declared.ids.GroupId.{GroupId}
 use Rattle.chat_model.specs.declared.ids.UserId.{UserId}
@@ -9,7 +8,9 @@ use Rattle.mention_scan.specs.Division.{LiesWithin, spans_of}
 use Rattle.mention_scan.specs.Mentions.{inner_of, is_channel_wildcard, is_group_named, is_group_span, is_mentioned, is_topic_wildcard, is_user_span, may_name, speaks_of}
 use Rattle.chat_model.specs.declared.mentions.GroupName.{GroupName}
 use Rattle.chat_model.specs.declared.mentions.UserName.{UserName}
-use Rattle.mention_scan.proofs.Judging.{kept-ascend, list_any-filter}
+use Rattle.chat_model.specs.Ascending.{ascending_once_by, is_ascending_by}
+use Rattle.chat_model.proofs.OnceEach.{ascending_once-ascending}
+use Rattle.mention_scan.proofs.Judging.{list_any-filter}
 use Rattle.mention_scan.proofs.Within.{spans_of-within}
 use Rattle.mention_scan.proofs.mentions.resolve.Goals as goal
 
@@ -54,19 +55,16 @@ returns-clause-mentions c =
     filter_agree (spoken c.as_slice.result.now) (is_mentioned text users)
     (λ u. ap (λ ss. spoken ss u) chosen ∙ list_any-filter p (λ s. speaks_of (inner_of text s) u) (spans_of text)
     ∙ (λ i. list_any (λ s. and_assoc (is_user_span s) (may_name users (inner_of text s)) (speaks_of (inner_of text s) u) i) (spans_of text))) users in
-    let user_ids = c.in_ok-users.ensures ∙ ap (map (λ (u : UserName). u.id)) same in
-    let group_ids = c.in_ok-groups.ensures ∙ ap (λ ss. map (λ (g : GroupName). g.id) (filter (named ss) groups)) c.requires.spans_of_the_text in
+    let user_ids = c.ascending_users.ensures ∙ ap (ascending_once_by (λ (u : UserId). u.0)) (c.in_ok-users.ensures ∙ ap (map (λ (u : UserName). u.id)) same) in
+    let group_ids = c.ascending_groups.ensures ∙ ap (ascending_once_by (λ (g : GroupId). g.0)) (c.in_ok-groups.ensures ∙ ap (λ ss. map (λ (g : GroupName). g.id) (filter (named ss) groups)) c.requires.spans_of_the_text) in
     let channel = c.has_channel_wildcard.ensures ∙ ap (λ ss. list_any (λ s. is_user_span s && is_channel_wildcard (inner_of text s)) ss) c.requires.spans_of_the_text in
     let topic = c.has_topic_wildcard.ensures ∙ ap (λ ss. list_any (λ s. is_user_span s && is_topic_wildcard (inner_of text s)) ss) c.requires.spans_of_the_text in
     rw (user_ids, group_ids, channel, topic) refl
 
-pub returns-clause-ascending : goal.returns-clause-ascending
-returns-clause-ascending c =
-    let text = c.args.text.now in
-    let spoken : UserName → Bool = λ u. list_any (λ s. speaks_of (inner_of text s) u) c.as_slice.result.now in
-    let named : GroupName → Bool = λ g. list_any (λ s. is_group_span s && is_group_named (inner_of text s) g) c.args.spans.now in (
-      (λ h. subst (λ ids. IsStrictlyIncreasing (map (λ (id : UserId). id.0) ids)) (sym c.in_ok-users.ensures)
-          (kept-ascend (λ (id : UserId). id.0) (λ (u : UserName). u.id) spoken c.args.users.now h)),
-      λ h. subst (λ ids. IsStrictlyIncreasing (map (λ (id : GroupId). id.0) ids)) (sym c.in_ok-groups.ensures)
-          (kept-ascend (λ (id : GroupId). id.0) (λ (g : GroupName). g.id) named c.args.groups.now h),
-    )
+pub returns-clause-ascending_users : goal.returns-clause-ascending_users
+returns-clause-ascending_users c =
+    ap (is_ascending_by (λ (u : UserId). u.0)) c.ascending_users.ensures ∙ ascending_once-ascending (λ (u : UserId). u.0) c.in_ok-users.users
+
+pub returns-clause-ascending_groups : goal.returns-clause-ascending_groups
+returns-clause-ascending_groups c =
+    ap (is_ascending_by (λ (g : GroupId). g.0)) c.ascending_groups.ensures ∙ ascending_once-ascending (λ (g : GroupId). g.0) c.in_ok-groups.groups

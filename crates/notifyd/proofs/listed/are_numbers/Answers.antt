@@ -1,7 +1,7 @@
 use Rattle.std.proofs.Common.{is_some, rules, tests, ◌∙◌}
 use Rattle.std.proofs.lemmas.Iterator.Search.{all_from_yields_List}
 use Rattle.std.proofs.lemmas.Iterator.Splits.{YieldsList-from_slice_split}
-use Rattle.notifyd.specs.Field.{number_of}
+use Rattle.chat_model.specs.Number.{number_of}
 use Rattle.notifyd.proofs.ListedLemmas.{list_all-number_of}
 use Rattle.notifyd.proofs.listed.are_numbers.Goals as goal
 

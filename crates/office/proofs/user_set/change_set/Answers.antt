@@ -2,7 +2,7 @@ use Rattle.std.proofs.Common.{◌-◌, map, sym, ◌∙◌, arith}
 use Rattle.std.proofs.lemmas.List.{length-map}
 use Rattle.office.specs.UserSets.{users_in, users_after}
 use Rattle.office.proofs.Numbered.{changed_numbered-from_zero, changed_at-past, map-set_at}
-use Rattle.office.proofs.user_set.change.Goals as goal
+use Rattle.office.proofs.user_set.change_set.Goals as goal
 
 pub returns-then-i-sets : goal.returns-then-i-sets
 returns-then-i-sets c =

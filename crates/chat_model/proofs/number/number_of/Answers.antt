@@ -1,8 +1,8 @@
 use Rattle.std.proofs.Common.{◌≤◌, length, sym, ap, ◌∙◌, arith}
 use Rattle.std.proofs.lemmas.Bool.Decides.{nat_tests}
 use Rattle.std.proofs.lemmas.List.{drop_all}
-use Rattle.notifyd.proofs.FieldLemmas.{number_from, number_of-small, below_power}
-use Rattle.notifyd.proofs.field.number_of.Goals as goal
+use Rattle.chat_model.proofs.Digits.{number_from, number_of-small, below_power}
+use Rattle.chat_model.proofs.number.number_of.Goals as goal
 
 pub overflow_mul-value : goal.overflow_mul-value
 overflow_mul-value c =
@@ -14,5 +14,5 @@ overflow_add-value c =
 
 pub returns : goal.returns
 returns c =
-    let some : 1 ≤ length c.args.word.now = grind (arith, nat_tests) in
-    sym (ap (number_from c.loop-digit.value) (drop_all c.loop-digit.digit-index c.args.word.now c.loop-digit-test.false)) ∙ c.loop-digit.invariant.0 ∙ sym (number_of-small c.args.word.now some c.if-word-gt19.false)
+    let some : 1 ≤ length c.args.digits.now = grind (arith, nat_tests) in
+    sym (ap (number_from c.loop-digit.value) (drop_all c.loop-digit.digit-index c.args.digits.now c.loop-digit-test.false)) ∙ c.loop-digit.invariant.0 ∙ sym (number_of-small c.args.digits.now some c.if-digits-gt-MOST_DIGITS.false)

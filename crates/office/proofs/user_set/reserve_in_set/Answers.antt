@@ -3,8 +3,8 @@ use Rattle.std.specs.Prelude.{IfSome}
 use Rattle.office.specs.declared.user_set.UserSet.{UserSet}
 use Rattle.office.specs.UserSets.{users_in, HasPlace}
 use Rattle.office.proofs.Numbered.{numbered-from_zero, changed_at-same, map-set_at, slice_get-set, slice_get-past}
-use Rattle.office.proofs.user_set.reserve_place.Goals as goal
-use Rattle.office.proofs.user_set.reserve_place.Goals.{After-reserve}
+use Rattle.office.proofs.user_set.reserve_in_set.Goals as goal
+use Rattle.office.proofs.user_set.reserve_in_set.Goals.{After-reserve}
 
 -- room for a user changes no user
 users_stay : (c : After-reserve) → map users_in (set c.args.sets.now (c.args.number - 1) (record { users = c.reserve.new.self })) ≡ map users_in c.args.sets.now
@@ -24,8 +24,8 @@ returns-in_ok-reserve-clause-place c =
     let i = c.args.number - 1 in let cs = c.args.sets.now in
     let y : UserSet = record { users = c.reserve.new.self } in
     let place : HasPlace y = omega (arith, c.in_ok-reserve.ensures.ok) in
-    subst (λ (o : Option UserSet). IfSome o HasPlace) (sym (numbered-from_zero c.args.number (set cs i y) c.if-number-eq0.false ∙ slice_get-set i cs y c.if-i-sets.true)) place
+    λ comes. subst (λ (o : Option UserSet). IfSome o HasPlace) (sym (numbered-from_zero c.args.number (set cs i y) c.if-number-eq0.false ∙ slice_get-set i cs y c.if-i-sets.true)) place
 
 pub returns-else-i-sets-clause-place : goal.returns-else-i-sets-clause-place
 returns-else-i-sets-clause-place c =
-    subst (λ (o : Option UserSet). IfSome o HasPlace) (sym (numbered-from_zero c.args.number c.args.sets.now c.if-number-eq0.false ∙ slice_get-past (c.args.number - 1) c.args.sets.now c.if-i-sets.false)) tt
+    λ comes. subst (λ (o : Option UserSet). IfSome o HasPlace) (sym (numbered-from_zero c.args.number c.args.sets.now c.if-number-eq0.false ∙ slice_get-past (c.args.number - 1) c.args.sets.now c.if-i-sets.false)) tt
