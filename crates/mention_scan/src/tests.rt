@@ -399,6 +399,47 @@ fn a_user_with_a_bar_in_the_name(rt: HostRuntime) -> Result<(), Fail> {
     Ok(())
 }
 
+fn user(alloc: Global, id: u64, name: &str) -> Result<UserName, Fail> {
+    Ok(UserName {
+        id: UserId(id),
+        name: Text::from_str(alloc, name)?,
+    })
+}
+
+fn group(alloc: Global, id: u64, name: &str) -> Result<GroupName, Fail> {
+    Ok(GroupName {
+        id: GroupId(id),
+        name: Text::from_str(alloc, name)?,
+    })
+}
+
+#[test]
+fn mentions_ascend_once_each_whatever_is_handed_in(rt: HostRuntime) -> Result<(), Fail> {
+    let alloc = rt.alloc();
+    let users = [
+        user(alloc, 2, "Ben")?,
+        user(alloc, 1, "Ada")?,
+        user(alloc, 2, "Ben")?,
+    ];
+    let groups = [
+        group(alloc, 5, "ops")?,
+        group(alloc, 3, "dev")?,
+        group(alloc, 5, "ops")?,
+    ];
+    let text = "@**|2** @**Ada** @*ops* @*dev*";
+    let spans = scan(alloc, text)?;
+    let mentions = resolve(alloc, text, spans.as_slice(), &users, &groups)?;
+    assert_eq!(rt;
+        mentions.users.as_slice(),
+        [UserId(1), UserId(2)].as_slice()
+    );
+    assert_eq!(rt;
+        mentions.groups.as_slice(),
+        [GroupId(3), GroupId(5)].as_slice()
+    );
+    Ok(())
+}
+
 /// Runs of 1, 2, 3, .. backquotes, each with an `@` behind it, and then `@` alone: 10,000 characters.
 fn growing_runs(alloc: Global) -> Result<String, Fail> {
     let mut text = String::new(alloc);

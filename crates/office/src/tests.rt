@@ -18,11 +18,11 @@ fn add_user(alloc: Global, name: &str) -> Result<Request, Fail> {
     Ok(Request::AddUser { name, bot: false })
 }
 
-fn subscribe(user: u64) -> Request {
+fn subscription(user: u64, on: bool) -> Request {
     Request::Subscribe {
         user: UserId(user),
         channel: ChannelId(1),
-        on: true,
+        on,
     }
 }
 
@@ -49,8 +49,8 @@ fn team(rt: &impl Abort, alloc: Global, failing: List<u64>) -> Result<Office<Mem
     let name = Text::from_str(alloc, "team")?;
     let channel = office.ask(Request::AddChannel { name }, now);
     assert_eq!(rt; channel, Ok(Answer::Channel(ChannelId(1))));
-    assert_eq!(rt; office.ask(subscribe(1), now), Ok(Answer::Done));
-    assert_eq!(rt; office.ask(subscribe(2), now), Ok(Answer::Done));
+    assert_eq!(rt; office.ask(subscription(1, true), now), Ok(Answer::Done));
+    assert_eq!(rt; office.ask(subscription(2, true), now), Ok(Answer::Done));
     Ok(office)
 }
 
@@ -112,14 +112,7 @@ fn a_broken_rule_is_refused(rt: HostRuntime) -> Result<(), Fail> {
     assert_eq!(rt; unknown_user, Err(AskFault::Refused(Refusal::NoUser)));
     let unknown_channel = office.ask(send(alloc, 1, 9)?, now);
     assert_eq!(rt; unknown_channel, Err(AskFault::Refused(Refusal::NoChannel)));
-    let left = office.ask(
-        Request::Subscribe {
-            user: UserId(2),
-            channel: ChannelId(1),
-            on: false,
-        },
-        now,
-    );
+    let left = office.ask(subscription(2, false), now);
     assert_eq!(rt; left, Ok(Answer::Done));
     let not_subscribed = office.ask(send(alloc, 2, 1)?, now);
     assert_eq!(rt;
@@ -260,6 +253,27 @@ fn a_membership_is_what_its_last_change_made_it(rt: HostRuntime) -> Result<(), F
         assert!(rt; sent.is_ok());
     }
     assert_eq!(rt; office.audit(), counts(2, 0));
+    Ok(())
+}
+
+#[test]
+fn a_message_to_more_than_ten_thousand_subscribers_is_refused(rt: HostRuntime) -> Result<(), Fail> {
+    let alloc = rt.alloc();
+    let now = moment(&rt, 100);
+    let mut office = team(&rt, alloc, List::new(alloc))?;
+    for user in 3..=10_001 {
+        let added = office.ask(add_user(alloc, "Cy")?, now);
+        assert!(rt; added.is_ok());
+        let subscribed = office.ask(subscription(user, true), now);
+        assert!(rt; subscribed.is_ok());
+    }
+    let refused = office.ask(message(alloc, "hi")?, now);
+    let too_many = Refusal::TooMany { limit: 10_000 };
+    assert_eq!(rt; refused, Err(AskFault::Refused(too_many)));
+    let left = office.ask(subscription(10_001, false), now);
+    assert_eq!(rt; left, Ok(Answer::Done));
+    let sent = office.ask(message(alloc, "hi")?, now);
+    assert!(rt; sent.is_ok());
     Ok(())
 }
 
