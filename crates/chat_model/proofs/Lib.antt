@@ -1,3 +1,4 @@
+pub mod Exact
 pub mod Blocks
 pub mod Digits
 pub mod Keys

@@ -1,5 +1,5 @@
--- The settings of a new user.
-use Rattle.std.specs.Prelude.{true, false}
+-- The settings of a new user, and the switch of a push turn.
+use Rattle.std.specs.Prelude.{Bool, true, false, ◌||◌}
 use Rattle.chat_model.specs.declared.settings.Settings.{Settings}
 
 -- the switches for mentions, wildcards and followed topics are on, the others off, and the period is two minutes
@@ -16,3 +16,7 @@ default_settings = record {
   followed_wildcards = true;
   period = 120;
 }
+
+-- a push is handed over where the user wants pushes of mentions, or pushes while online
+abbrev pub push_switch : Settings → Bool
+push_switch s = s.push_mentions || s.push_online

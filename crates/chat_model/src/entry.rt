@@ -2,11 +2,13 @@
 ghost use Rattle.std.specs.Prelude.{◌≡◌, IfOk};
 
 use crate::duplicate::{Duplicate, duplicate_all};
-use crate::{ChannelId, GroupName, List, MessageId, Moment, OutOfMemory, Text, Trigger, UserId};
+use crate::{
+    ChannelId, GroupName, List, MessageId, Moment, OutOfMemory, Same, Text, Trigger, UserId,
+};
 use std::alloc::Global;
 
 /// A message in an entry, with its text as it was at the turn.
-#[derive(Debug, Drop)]
+#[derive(Debug, PartialEq, Eq, Drop)]
 pub struct Item {
     pub message: MessageId,
     pub sender: UserId,
@@ -43,13 +45,24 @@ impl Duplicate for Item {
     }
 }
 
-/// Where the messages of an entry stand.
-#[derive(Debug, Drop)]
+impl Same for Item {
+    fn is_same(&self, other: &Item) -> bool {
+        self == other
+    }
+}
+
+/// Where the messages of an entry stand. A direct message stands with the others of its sender and the same users, of
+/// whom the sender is one.
+#[derive(Debug, PartialEq, Eq, Drop)]
 pub enum Conversation {
     Channel {
         channel: ChannelId,
         name: Text,
         topic: Text,
+    },
+    Direct {
+        users: List<UserId>,
+        sender: UserId,
     },
 }
 
@@ -68,12 +81,22 @@ impl Conversation {
                 name: name.copy()?,
                 topic: topic.copy()?,
             }),
+            Conversation::Direct { users, sender } => Ok(Conversation::Direct {
+                users: users.copy()?,
+                sender: *sender,
+            }),
         }
     }
 }
 
+impl Same for Conversation {
+    fn is_same(&self, other: &Conversation) -> bool {
+        self == other
+    }
+}
+
 /// An entry of the outbox, for one user. `at` is the stamp of the turn that made it.
-#[derive(Debug, Drop)]
+#[derive(Debug, PartialEq, Eq, Drop)]
 pub enum Entry {
     Mail {
         user: UserId,
@@ -107,5 +130,11 @@ impl Entry {
                 })
             }
         }
+    }
+}
+
+impl Same for Entry {
+    fn is_same(&self, other: &Entry) -> bool {
+        self == other
     }
 }

@@ -2,11 +2,11 @@
 ghost use Rattle.std.specs.Prelude.{◌≡◌, IfOk};
 
 use crate::duplicate::Duplicate;
-use crate::{Moment, OutOfMemory, Request, UserId};
+use crate::{Moment, OutOfMemory, Request, Same, UserId};
 use std::alloc::Global;
 
 /// What happened.
-#[derive(Debug, Drop)]
+#[derive(Debug, PartialEq, Eq, Drop)]
 pub enum Event {
     /// The office was started.
     Restart,
@@ -29,8 +29,14 @@ impl Event {
     }
 }
 
+impl Same for Event {
+    fn is_same(&self, other: &Event) -> bool {
+        self == other
+    }
+}
+
 /// An event and the moment at which it was recorded.
-#[derive(Debug, Drop)]
+#[derive(Debug, PartialEq, Eq, Drop)]
 pub struct Stamped {
     pub at: Moment,
     pub event: Event,
@@ -49,5 +55,11 @@ impl Stamped {
 impl Duplicate for Stamped {
     fn duplicate(&self, alloc: Global) -> Result<Self, OutOfMemory> {
         self.copy(alloc)
+    }
+}
+
+impl Same for Stamped {
+    fn is_same(&self, other: &Stamped) -> bool {
+        self == other
     }
 }

@@ -3,9 +3,11 @@
 
 mod ascending;
 mod counts;
+mod deal;
 mod duplicate;
 mod entry;
 mod event;
+mod facts;
 mod failed;
 mod ids;
 mod list;
@@ -13,8 +15,11 @@ mod memory;
 mod mentions;
 mod moment;
 mod number;
+mod policy;
+mod push_item;
 mod request;
 mod row;
+mod same;
 mod settings;
 #[cfg(test)]
 mod tests;
@@ -23,9 +28,11 @@ mod trigger;
 
 pub use ascending::{ascending_groups, ascending_users};
 pub use counts::Counts;
+pub use deal::{Deal, Outcome, QueueId, UserVerdict, Verdict};
 pub use duplicate::{Duplicate, duplicate_all};
 pub use entry::{Conversation, Entry, Item};
 pub use event::{Event, Stamped};
+pub use facts::Facts;
 pub use failed::Failed;
 pub use ids::{ChannelId, DealNo, EntryNo, GroupId, MessageId, UserId};
 pub use list::List;
@@ -33,8 +40,11 @@ pub use memory::OutOfMemory;
 pub use mentions::{GroupName, Mentions, UserName};
 pub use moment::Moment;
 pub use number::number_of;
+pub use policy::{Policy, Specific};
+pub use push_item::PushItem;
 pub use request::{Answer, Refusal, Request};
 pub use row::{Cause, Row, RowChange, RowKey, Stage};
+pub use same::Same;
 pub use settings::Settings;
 pub use text::Text;
 pub use trigger::{Trigger, Way};

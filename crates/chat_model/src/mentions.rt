@@ -1,11 +1,11 @@
 //! What a text mentions, and the names by which it does.
 ghost use Rattle.std.specs.Prelude.{◌≡◌, IfOk};
 
-use crate::{GroupId, List, OutOfMemory, Text, UserId};
+use crate::{GroupId, List, OutOfMemory, Same, Text, UserId};
 use std::alloc::Global;
 
 /// A user and the user's name.
-#[derive(Debug, Drop)]
+#[derive(Debug, PartialEq, Eq, Drop)]
 pub struct UserName {
     pub id: UserId,
     pub name: Text,
@@ -23,8 +23,14 @@ impl UserName {
     }
 }
 
+impl Same for UserName {
+    fn is_same(&self, other: &UserName) -> bool {
+        self == other
+    }
+}
+
 /// A group and its name.
-#[derive(Debug, Drop)]
+#[derive(Debug, PartialEq, Eq, Drop)]
 pub struct GroupName {
     pub id: GroupId,
     pub name: Text,
@@ -42,8 +48,14 @@ impl GroupName {
     }
 }
 
+impl Same for GroupName {
+    fn is_same(&self, other: &GroupName) -> bool {
+        self == other
+    }
+}
+
 /// Users and groups ascending, once each, and the two wildcards.
-#[derive(Debug, Drop)]
+#[derive(Debug, PartialEq, Eq, Drop)]
 pub struct Mentions {
     pub users: List<UserId>,
     pub groups: List<GroupId>,

@@ -1,11 +1,12 @@
 //! What a client asks, what it is answered, and why it is refused.
 ghost use Rattle.std.specs.Prelude.{◌≡◌, IfOk};
+ghost use Rattle.chat_model.specs.Refusals.{refusal_number};
 
-use crate::{ChannelId, DealNo, GroupId, List, MessageId, OutOfMemory, Text, UserId};
+use crate::{ChannelId, DealNo, GroupId, List, MessageId, OutOfMemory, Same, Text, UserId};
 use std::alloc::Global;
 
 /// A change that a client asks for.
-#[derive(Debug, Drop)]
+#[derive(Debug, PartialEq, Eq, Drop)]
 pub enum Request {
     AddUser {
         name: Text,
@@ -77,6 +78,12 @@ impl Request {
     }
 }
 
+impl Same for Request {
+    fn is_same(&self, other: &Request) -> bool {
+        self == other
+    }
+}
+
 /// What became of a request that was not refused.
 #[derive(Clone, Copy, Debug, PartialEq, Eq)]
 pub enum Answer {
@@ -113,4 +120,25 @@ pub enum Refusal {
     /// 25: the name is empty, begins or ends with a space, or holds a control character or one of `*`, `|`, `@`, `\`,
     /// `>`, `"` and a backquote.
     BadName,
+}
+
+impl Refusal {
+    /// The number of this refusal.
+    pub fn number(self) -> u64
+        ensures { result ≡ refusal_number self }
+    {
+        match self {
+            Refusal::NoUser => 10,
+            Refusal::NoChannel => 11,
+            Refusal::NoGroup => 13,
+            Refusal::Exists => 14,
+            Refusal::NotSubscribed => 16,
+            Refusal::EmptyText => 17,
+            Refusal::TextTooLong => 18,
+            Refusal::TopicTooLong => 19,
+            Refusal::TooMany { .. } => 23,
+            Refusal::NameTooLong => 24,
+            Refusal::BadName => 25,
+        }
+    }
 }

@@ -3,12 +3,14 @@ ghost use Rattle.std.specs.Prelude.{◌≡◌, IfOk};
 ghost use Rattle.chat_model.specs.Rows.{key_of, key_cmp, way_place};
 
 use crate::duplicate::Duplicate;
-use crate::{DealNo, Entry, EntryNo, MessageId, OutOfMemory, Settings, Text, Trigger, UserId, Way};
+use crate::{
+    DealNo, Entry, EntryNo, MessageId, OutOfMemory, Same, Settings, Text, Trigger, UserId, Way,
+};
 use std::alloc::Global;
 use std::cmp::Ordering;
 
 /// How far a pending notice has come.
-#[derive(Clone, Copy, Debug, PartialEq, Eq, PartialOrd, Ord, Hash)]
+#[derive(Clone, Copy, Debug, PartialEq, Eq, Hash)]
 pub enum Stage {
     Flight,
     Held,
@@ -16,7 +18,7 @@ pub enum Stage {
 }
 
 /// What cancelled a notice.
-#[derive(Clone, Copy, Debug, PartialEq, Eq, PartialOrd, Ord, Hash)]
+#[derive(Clone, Copy, Debug, PartialEq, Eq, Hash)]
 pub enum Cause {
     Read,
     Deleted,
@@ -24,7 +26,7 @@ pub enum Cause {
 }
 
 /// A row of a kept table.
-#[derive(Debug, Drop)]
+#[derive(Debug, PartialEq, Eq, Drop)]
 pub enum Row {
     User {
         id: UserId,
@@ -135,6 +137,12 @@ impl Duplicate for Row {
     }
 }
 
+impl Same for Row {
+    fn is_same(&self, other: &Row) -> bool {
+        self == other
+    }
+}
+
 /// The table and the key of a row. Rows are kept by table in this order, then by key.
 #[derive(Clone, Copy, Debug, PartialEq, Eq)]
 pub enum RowKey {
@@ -178,7 +186,7 @@ impl RowKey {
 }
 
 /// A change of one row: `Put` adds it, or takes the place of the row of its key.
-#[derive(Debug, Drop)]
+#[derive(Debug, PartialEq, Eq, Drop)]
 pub enum RowChange {
     Put(Row),
     Remove(RowKey),
@@ -199,5 +207,11 @@ impl RowChange {
 impl Duplicate for RowChange {
     fn duplicate(&self, alloc: Global) -> Result<Self, OutOfMemory> {
         self.copy(alloc)
+    }
+}
+
+impl Same for RowChange {
+    fn is_same(&self, other: &RowChange) -> bool {
+        self == other
     }
 }

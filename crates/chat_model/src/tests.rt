@@ -1,7 +1,8 @@
 use crate::{
-    ChannelId, Conversation, DealNo, Entry, EntryNo, Event, GroupId, GroupName, Item, List,
-    MessageId, Moment, OutOfMemory, Request, Row, RowChange, RowKey, Settings, Stage, Stamped,
-    Text, Trigger, UserId, UserName, Way, duplicate_all,
+    ChannelId, Conversation, Deal, DealNo, Entry, EntryNo, Event, GroupId, GroupName, Item, List,
+    MessageId, Moment, OutOfMemory, Outcome, PushItem, QueueId, Request, Row, RowChange, RowKey,
+    Settings, Stage, Stamped, Text, Trigger, UserId, UserName, UserVerdict, Verdict, Way,
+    duplicate_all,
 };
 use std::alloc::Global;
 use std::cmp::Ordering;
@@ -228,6 +229,7 @@ fn entries_are_copied_with_their_items(rt: HostRuntime) -> Result<(), Fail> {
                     assert_eq!(rt; name.as_str(), "team");
                     assert_eq!(rt; topic.as_str(), "lunch");
                 }
+                Conversation::Direct { .. } => panic!(rt; "another conversation"),
             }
             let items = items.into_vec();
             assert_eq!(rt; items.len(), 1);
@@ -285,4 +287,107 @@ fn keys_stand_by_table_then_by_number(rt: HostRuntime) {
     assert_eq!(rt; push.compare(later), Ordering::Less);
     assert_eq!(rt; outbox.compare(later), Ordering::Greater);
     assert_eq!(rt; outbox.compare(outbox), Ordering::Equal);
+}
+
+#[test]
+fn deals_and_outcomes_are_copied(rt: HostRuntime) -> Result<(), Fail> {
+    let alloc = rt.alloc();
+    let mut users = List::new(alloc);
+    users.push(UserId(2))?;
+    let deal = Deal {
+        number: DealNo(3),
+        message: MessageId(4),
+        users,
+    };
+    let copy = deal.copy(alloc)?;
+    assert_eq!(rt; copy.number, DealNo(3));
+    assert_eq!(rt; copy.message, MessageId(4));
+    assert_eq!(rt; copy.users.as_slice(), [UserId(2)].as_slice());
+    let mut verdicts = List::new(alloc);
+    verdicts.push(UserVerdict {
+        user: UserId(2),
+        verdict: Verdict::Live,
+    })?;
+    let dealt = Outcome::Dealt {
+        deal: DealNo(3),
+        verdicts,
+    };
+    let mut deals = List::new(alloc);
+    deals.push(DealNo(3))?;
+    let queue = QueueId { run: 1, number: 5 };
+    let cleared = Outcome::Cleared {
+        user: UserId(2),
+        deals,
+        queue,
+    };
+    let mut missed_deals = List::new(alloc);
+    missed_deals.push(DealNo(6))?;
+    let missed = Outcome::Missed {
+        user: UserId(7),
+        deals: missed_deals,
+    };
+    let outcomes = duplicate_all(alloc, [dealt, cleared, missed].as_slice())?;
+    match outcomes.as_slice() {
+        [
+            Outcome::Dealt { deal, verdicts },
+            Outcome::Cleared { deals, queue, .. },
+            Outcome::Missed {
+                user,
+                deals: missed,
+            },
+        ] => {
+            assert_eq!(rt; *deal, DealNo(3));
+            assert_eq!(rt; verdicts.as_slice()[0].verdict, Verdict::Live);
+            assert_eq!(rt; deals.as_slice(), [DealNo(3)].as_slice());
+            assert_eq!(rt; *queue, QueueId { run: 1, number: 5 });
+            assert_eq!(rt; *user, UserId(7));
+            assert_eq!(rt; missed.as_slice(), [DealNo(6)].as_slice());
+        }
+        _ => panic!(rt; "other outcomes"),
+    }
+    Ok(())
+}
+
+#[test]
+fn direct_conversations_and_push_items_are_copied(rt: HostRuntime) -> Result<(), Fail> {
+    let alloc = rt.alloc();
+    let mut users = List::new(alloc);
+    users.push(UserId(2))?;
+    users.push(UserId(5))?;
+    let direct = Conversation::Direct {
+        users,
+        sender: UserId(5),
+    };
+    match direct.copy(alloc)? {
+        Conversation::Direct { users, sender } => {
+            assert_eq!(rt; users.as_slice(), [UserId(2), UserId(5)].as_slice());
+            assert_eq!(rt; sender, UserId(5));
+        }
+        Conversation::Channel { .. } => panic!(rt; "another conversation"),
+    }
+    let notify = PushItem::Notify {
+        user: UserId(2),
+        message: MessageId(4),
+    };
+    match notify.copy(alloc)? {
+        PushItem::Notify { user, message } => {
+            assert_eq!(rt; user, UserId(2));
+            assert_eq!(rt; message, MessageId(4));
+        }
+        PushItem::Remove { .. } => panic!(rt; "another item"),
+    }
+    let mut messages = List::new(alloc);
+    messages.push(MessageId(4))?;
+    let remove = PushItem::Remove {
+        user: UserId(2),
+        messages,
+    };
+    match remove.copy(alloc)? {
+        PushItem::Remove { user, messages } => {
+            assert_eq!(rt; user, UserId(2));
+            assert_eq!(rt; messages.as_slice(), [MessageId(4)].as_slice());
+        }
+        PushItem::Notify { .. } => panic!(rt; "another item"),
+    }
+    Ok(())
 }

@@ -1,10 +1,10 @@
 //! The keeper, which holds the journal and the rows.
-ghost use Rattle.std.specs.Prelude.{◌≡◌, ℕ, ◌≤◌, Option, IfOk, IfErr, OnOk, OnErr, IfSome};
+ghost use Rattle.std.specs.Prelude.{◌≡◌, ℕ, ◌+◌, ◌≤◌, Option, IfOk, IfErr, OnOk, OnErr, IfSome, is_some};
 ghost use Rattle.std.specs.Option.{option_map};
 ghost use Rattle.chat_model.specs.Counts.{HasRisen};
 ghost use Rattle.chat_model.specs.Rows.{IsAscending};
 ghost use Rattle.keeper.specs.declared.keeper.Kept.{Kept};
-ghost use Rattle.keeper.specs.Kept.{committed};
+ghost use Rattle.keeper.specs.Kept.{committed, faults_told};
 
 use chat_model::{List, Row, RowChange, Stamped};
 use thiserror::Error;
@@ -27,7 +27,7 @@ pub struct Kept {
     pub rows: List<Row>,
 }
 
-/// What holds a journal and its rows.
+/// What holds a journal and its rows. Each call keeps whether what is kept is told, and counts its own fault once.
 pub trait Keeper {
     // what is kept, where the keeper tells it
     ghost kept: { Self → Option Kept };
@@ -41,12 +41,15 @@ pub trait Keeper {
         ensures ascending { IfOk result (λ loaded. IsAscending loaded.rows) }
         ensures stays { kept self.new ≡ kept self.old }
         ensures failed { IfErr result (λ fault. fault ≡ KeepFault.Failed → HasRisen (faults self.old) (faults self.new)) }
-        ensures counted { faults self.old ≤ faults self.new };
+        ensures counted { faults self.old ≤ faults self.new }
+        ensures most { faults self.new ≤ faults self.old + faults_told result };
 
     /// Adds the event to the journal and makes the changes in the rows, first to last. It does all of it or nothing.
     fn commit(&mut self, event: &Stamped, changes: &[RowChange]) -> Result<(), KeepFault>
         ensures ok { OnOk result (kept self.new ≡ option_map (committed event.now changes.now) (kept self.old)) }
         ensures err { OnErr result (kept self.new ≡ kept self.old) }
+        ensures told { is_some (kept self.new) ≡ is_some (kept self.old) }
         ensures failed { IfErr result (λ fault. fault ≡ KeepFault.Failed → HasRisen (faults self.old) (faults self.new)) }
-        ensures counted { faults self.old ≤ faults self.new };
+        ensures counted { faults self.old ≤ faults self.new }
+        ensures most { faults self.new ≤ faults self.old + faults_told result };
 }

@@ -1,9 +1,9 @@
 //! A keeper in memory.
-ghost use Rattle.std.specs.Prelude.{◌≡◌, ℕ, ◌+◌, ◌-◌, ◌^◌, ◌≤◌, ◌↔◌, [], Some, Option, IfOk, IfErr, OnOk, OnErr, IfSome, IsTrue, if◌then◌else◌, Contains, length};
+ghost use Rattle.std.specs.Prelude.{◌≡◌, ℕ, ◌+◌, ◌-◌, ◌^◌, ◌≤◌, ◌↔◌, [], Some, Option, IfOk, IfErr, OnOk, OnErr, IfSome, IsTrue, if◌then◌else◌, Contains, is_some};
 ghost use Rattle.std.specs.Option.{option_map};
 ghost use Rattle.chat_model.specs.Counts.{HasRisen};
 ghost use Rattle.chat_model.specs.Rows.{IsAscending};
-ghost use Rattle.keeper.specs.Kept.{committed};
+ghost use Rattle.keeper.specs.Kept.{committed, faults_told};
 ghost use Rattle.keeper.specs.Memory.{Memory, counted, FailsNext, IsNextCall, faults_after};
 
 use crate::places::change_all;
@@ -77,6 +77,7 @@ impl Keeper for MemoryKeeper {
         ensures stays { self.new.kept ≡ self.old.kept }
         ensures failed { IfErr result (λ fault. fault ≡ KeepFault.Failed → HasRisen self.old.faults self.new.faults) }
         ensures counted { self.old.faults ≤ self.new.faults }
+        ensures most { self.new.faults ≤ self.old.faults + faults_told result }
         ensures exact { (result ≡ Err KeepFault.Failed) ↔ FailsNext self.old }
         ensures faults { self.new.faults ≡ faults_after result self.old.faults }
         ensures numbered { IsNextCall self.old self.new }
@@ -98,8 +99,10 @@ impl Keeper for MemoryKeeper {
     fn commit(&mut self, event: &Stamped, changes: &[RowChange]) -> Result<(), KeepFault>
         ensures ok { OnOk result (self.new.kept ≡ committed event.now changes.now self.old.kept) }
         ensures err { OnErr result (self.new.kept ≡ self.old.kept) }
+        ensures told { is_some (Some self.new.kept) ≡ is_some (Some self.old.kept) }
         ensures failed { IfErr result (λ fault. fault ≡ KeepFault.Failed → HasRisen self.old.faults self.new.faults) }
         ensures counted { self.old.faults ≤ self.new.faults }
+        ensures most { self.new.faults ≤ self.old.faults + faults_told result }
         ensures exact { (result ≡ Err KeepFault.Failed) ↔ FailsNext self.old }
         ensures faults { self.new.faults ≡ faults_after result self.old.faults }
         ensures numbered { IsNextCall self.old self.new }

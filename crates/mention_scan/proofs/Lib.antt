@@ -1,8 +1,11 @@
 pub mod Bare
 pub mod Divides
+pub mod Fencing
+pub mod Forms
 pub mod Judging
 pub mod Lines
 pub mod Reading
 pub mod Runs
+pub mod Searches
 pub mod Whole
 pub mod Within

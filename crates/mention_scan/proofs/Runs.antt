@@ -1,97 +1,140 @@
--- The search for a run of backquotes, run by run.
-use Rattle.std.proofs.Common.{◌≡◌, ℕ, suc, ◌+◌, ◌-◌, ◌≤◌, ◌<◌, Bool, true, false, not, ◌&&◌, cond, List, [], ◌∷◌, ◌++◌, length, take, drop, Option, Some, None, refl, sym, ap, ◌∙◌, arith, nat_eq, length-append, length-take, length-drop, get_or, get_or-drop, subst}
-use Rattle.std.specs.Option.{option_map, option_map_or}
+-- Runs of backquotes, and the search for one.
+use Rattle.std.proofs.Common.{◌≡◌, ℕ, zero, suc, ◌+◌, ◌-◌, ◌≤◌, ◌<◌, true, false, not, List, ◌++◌, length, take, drop, Option, Some, None, refl, sym, ap, ◌∙◌, arith, nat_eq, length-append, length-take, length-drop, get_or, get_or-drop, subst, ⊎_elim}
+use Rattle.std.specs.Option.{option_map_or}
+use Rattle.std.proofs.lemmas.Bool.{and_from, and_left, and_parts, and_right, cases_lt, not_from_true}
 use Rattle.std.proofs.lemmas.Bool.Decides.{nat_tests}
-use Rattle.std.proofs.lemmas.List.{take_rest, drop-drop}
+use Rattle.std.proofs.lemmas.List.{length-replicate, take_rest}
 use Rattle.std.specs.Prelude.{IsUtf8, IsCharBoundary}
 use Rattle.std.specs.Str.{byte}
 use Rattle.std.proofs.lemmas.Str.{IsCharBoundary-after_ascii}
 use borrow.Author.Tests.{eqb-true}
-use Rattle.std.proofs.lemmas.Bool.{and_parts}
-use Rattle.std.proofs.lemmas.List.{length-replicate}
-use Rattle.std.proofs.lemmas.List.Sums.{prefix_len-le-length, prefix_len_passes}
-use Rattle.mention_scan.specs.Division.{bare, backquotes, bytes_of, code, run_length, run_part, run_place}
+use Rattle.std.proofs.lemmas.List.Sums.{prefix_len-le-length, prefix_len_passes, prefix_len_stops}
+use Rattle.mention_scan.specs.Division.{bare, backquotes, bytes_of, code, follows_backquote, is_run_at, nearest_run, run_length, run_part}
+use Rattle.mention_scan.proofs.Searches.{first-found, found-first, found-none, none-found}
 
-pub option_map-twice : {X Y Z : Type 0} (f : X → Y) (g : Y → Z) (h : X → Z) → ((x : X) → g (f x) ≡ h x) → (o : Option X) → option_map g (option_map f o) ≡ option_map h o
-option_map-twice f g h e None = refl
-option_map-twice f g h e (Some x) = ap Some (e x)
+-- ---- the search
 
--- behind a backquote the rest of its run and the character behind it are passed
-passes-behind : (n : ℕ) (bs : List ℕ) → run_place true n bs ≡ option_map (λ k. run_length bs + 1 + k) (run_place false n (drop (run_length bs + 1) bs))
-passes-behind n [] = refl
-passes-behind n (b ∷ bs) =
-    elim (nat_eq b (byte "`")) as (λ t. option_map suc (run_place t n bs) ≡ option_map (λ k. cond t (1 + run_length bs) 0 + 1 + k) (run_place false n (drop (cond t (1 + run_length bs) 0 + 1) (b ∷ bs)))) [
-      | true ↦ ap (option_map suc) (passes-behind n bs) ∙ option_map-twice _ suc (λ k. 1 + run_length bs + 1 + k) (λ k. omega arith) (run_place false n (drop (run_length bs + 1) bs))
-          ∙ ap (λ m. option_map (λ k. 1 + run_length bs + 1 + k) (run_place false n (drop m (b ∷ bs)))) (let e : suc (run_length bs + 1) ≡ 1 + run_length bs + 1 = omega arith in e)
-      | false ↦ option_map-shift (run_place false n bs)
-    ]
-  where
-    option_map-shift : (o : Option ℕ) → option_map suc o ≡ option_map (λ k. 0 + 1 + k) o
-    option_map-shift None = refl
-    option_map-shift (Some x) = ap Some (omega arith)
-
--- a run of another length and the character behind it are passed
-pub run_place-passes : (n : ℕ) (bs : List ℕ) → nat_eq (run_length bs) n ≡ false → run_place false n bs ≡ option_map (λ k. run_length bs + 1 + k) (run_place false n (drop (run_length bs + 1) bs))
-run_place-passes n [] h = refl
-run_place-passes n (b ∷ bs) h = ap (λ t. cond t (Some 0) (option_map suc (run_place (nat_eq b (byte "`")) n bs))) h ∙ passes-behind n (b ∷ bs)
-
-pub run_place-found : (n : ℕ) (b : ℕ) (bs : List ℕ) → nat_eq (run_length (b ∷ bs)) n ≡ true → run_place false n (b ∷ bs) ≡ Some 0
-run_place-found n b bs h = ap (λ t. cond t (Some 0) (option_map suc (run_place (nat_eq b (byte "`")) n bs))) h
-
--- a run of another length that begins at this place is passed
-pub run_place-on : (n place run : ℕ) (bs : List ℕ) → run ≡ run_length (take (length bs - place) (drop place bs)) → (run ≡ n → ⊥) →
-    run_place false n bs ≡ option_map (λ k. place + k) (run_place false n (drop place bs)) →
-    run_place false n bs ≡ option_map (λ k. place + (run + 1) + k) (run_place false n (drop (place + (run + 1)) bs))
-run_place-on n place run bs is other searched =
-    let size : run ≡ run_length (drop place bs) = is ∙ ap run_length (take_rest bs place) in
-    let differs : nat_eq (run_length (drop place bs)) n ≡ false = let d : run_length (drop place bs) ≡ n → ⊥ = λ e. other (size ∙ e) in grind (arith, nat_tests) in
-    searched ∙ ap (option_map (λ k. place + k)) (run_place-passes n (drop place bs) differs)
-    ∙ option_map-twice _ (λ k. place + k) (λ k. place + (run_length (drop place bs) + 1) + k) (λ k. omega arith) (run_place false n (drop (run_length (drop place bs) + 1) (drop place bs)))
-    ∙ ap (λ r. option_map (λ k. place + (r + 1) + k) (run_place false n (drop (r + 1) (drop place bs)))) (sym size)
-    ∙ ap (λ xs. option_map (λ k. place + (run + 1) + k) (run_place false n xs)) (drop-drop (run + 1) place bs)
-
--- a run of exactly `n` backquotes begins at this place, within the bytes
+-- a run of exactly `n` backquotes stands at this place, within the bytes, and at no earlier one
 pub record RunAt (n place : ℕ) (bs : List ℕ) : Type 0 where
   pub size : run_length (drop place bs) ≡ n
   pub fits : place + n ≤ length bs
+  pub is : is_run_at n bs place ≡ true
+  pub nearest : (k : ℕ) → k < place → is_run_at n bs k ≡ false
 
-RunAt-later : (n j k b : ℕ) (bs : List ℕ) → suc j ≡ k → RunAt n j bs → RunAt n k (b ∷ bs)
-RunAt-later n j k b bs e at = subst (λ m. RunAt n m (b ∷ bs)) e record { size = at.size; fits = omega (arith, at.fits) }
+pub nearest_run-at : (n : ℕ) (bs : List ℕ) (k : ℕ) → nearest_run n bs ≡ Some k → RunAt n k bs
+nearest_run-at n bs k e =
+    let first = found-first (is_run_at n bs) 0 (length bs) k e in
+    let size : run_length (drop k bs) ≡ n = eqb-true _ _ (and_parts _ (not (follows_backquote bs k)) first.passes).0 in
+    let bound : run_length (drop k bs) ≤ length (drop k bs) = prefix_len-le-length (λ x. nat_eq x (byte "`")) (drop k bs) in
+    let left : length (drop k bs) ≡ length bs - k = length-drop k bs in
+    record { size = size; fits = omega (arith, first.below); is = first.passes; nearest = λ j less. first.fails j (omega arith) less }
 
-RunAt-here : (n k : ℕ) (bs : List ℕ) → 0 ≡ k → nat_eq (run_length bs) n ≡ true → RunAt n k bs
-RunAt-here n k bs e same =
-    let size : run_length bs ≡ n = eqb-true _ _ same in
-    let bound : run_length bs ≤ length bs = prefix_len-le-length (λ x. nat_eq x (byte "`")) bs in
-    subst (λ m. RunAt n m bs) e record { size = size; fits = omega arith }
+-- no run of exactly `n` stands in the bytes
+abbrev pub NoRun : ℕ → List ℕ → Type 0
+NoRun n bs = (k : ℕ) → is_run_at n bs k ≡ false
 
--- the run that is found stands there
-pub run_place-at : (behind_backquote : Bool) (n : ℕ) (bs : List ℕ) (k : ℕ) → run_place behind_backquote n bs ≡ Some k → RunAt n k bs
-run_place-at f n [] k e = absurd cc
-run_place-at f n (b ∷ bs) k e =
-    (elim (not f && nat_eq (run_length (b ∷ bs)) n) as (λ t. (not f && nat_eq (run_length (b ∷ bs)) n) ≡ t → cond t (Some 0) (option_map suc (run_place (nat_eq b (byte "`")) n bs)) ≡ Some k → RunAt n k (b ∷ bs)) [
-      | true ↦ λ t h. let none : 0 ≡ k = cc in RunAt-here n k (b ∷ bs) none (and_parts (not f) _ t).1
-      | false ↦ λ t h. later (run_place (nat_eq b (byte "`")) n bs) (λ j. run_place-at (nat_eq b (byte "`")) n bs j) h
-    ]) refl e
-  where
-    later : (o : Option ℕ) → ((j : ℕ) → o ≡ Some j → RunAt n j bs) → option_map suc o ≡ Some k → RunAt n k (b ∷ bs)
-    later None at h = absurd cc
-    later (Some j) at h = let next : suc j ≡ k = cc in RunAt-later n j k b bs next (at j refl)
+-- no run stands at a place where no backquote stands
+pub empty-no_run : (n : ℕ) (bs : List ℕ) (k : ℕ) → 0 < n → run_length (drop k bs) ≡ 0 → is_run_at n bs k ≡ false
+empty-no_run n bs k some none =
+    let differs : nat_eq (run_length (drop k bs)) n ≡ false = let d : run_length (drop k bs) ≡ n → ⊥ = λ e. omega arith in grind (arith, nat_tests) in
+    and_left _ (not (follows_backquote bs k)) differs
+
+pub past-no_run : (n : ℕ) (bs : List ℕ) (k : ℕ) → 0 < n → length bs ≤ k → is_run_at n bs k ≡ false
+past-no_run n bs k some past =
+    let bound : run_length (drop k bs) ≤ length (drop k bs) = prefix_len-le-length (λ x. nat_eq x (byte "`")) (drop k bs) in
+    let left : length (drop k bs) ≡ length bs - k = length-drop k bs in
+    empty-no_run n bs k some (omega arith)
+
+pub nearest_run-none : (n : ℕ) (bs : List ℕ) → 0 < n → nearest_run n bs ≡ None → NoRun n bs
+nearest_run-none n bs some e =
+    λ k. ⊎_elim (λ inside. found-none (is_run_at n bs) 0 (length bs) e k (omega arith) (omega arith)) (λ past. past-no_run n bs k some past) (cases_lt k (length bs))
+
+pub none-nearest_run : (n : ℕ) (bs : List ℕ) → NoRun n bs → nearest_run n bs ≡ None
+none-nearest_run n bs none = none-found (is_run_at n bs) 0 (length bs) (λ k _ _. none k)
+
+pub at-nearest_run : (n : ℕ) (bs : List ℕ) (k : ℕ) → 0 < n → is_run_at n bs k ≡ true → ((j : ℕ) → j < k → is_run_at n bs j ≡ false) → nearest_run n bs ≡ Some k
+at-nearest_run n bs k some is nearest =
+    let inside : k < length bs = ⊎_elim (λ less. less) (λ past. let f = past-no_run n bs k some past in absurd cc) (cases_lt k (length bs)) in
+    first-found (is_run_at n bs) 0 (length bs) k record { from = omega arith; below = omega arith; passes = is; fails = λ j _ less. nearest j less }
+
+-- how far a search has come: it goes from run to run, and stands at no place behind a backquote
+pub record Searched (n place : ℕ) (bs : List ℕ) : Type 0 where
+  pub bound : place ≤ length bs + 1
+  pub begins : place ≤ length bs → follows_backquote bs place ≡ false
+  pub none : (k : ℕ) → k < place → is_run_at n bs k ≡ false
+
+pub Searched-begin : (n : ℕ) (bs : List ℕ) → Searched n 0 bs
+Searched-begin n bs = record { bound = omega arith; begins = λ _. refl; none = λ k less. absurd (omega arith) }
+
+-- a backquote stands before each place within a run but its first
+follows-inside : (bs : List ℕ) (place k : ℕ) → place < k → k ≤ place + run_length (drop place bs) → follows_backquote bs k ≡ true
+follows-inside bs place zero above within = absurd (omega arith)
+follows-inside bs place (suc k) above within =
+    let i : ℕ = k - place in
+    let at : place + i ≡ k = omega arith in
+    let passes = prefix_len_passes (λ x. nat_eq x (byte "`")) (drop place bs) i 0 (omega arith) in
+    subst (λ j. nat_eq (get_or bs j 0) (byte "`") ≡ true) at (subst (λ b. nat_eq b (byte "`") ≡ true) (get_or-drop place bs i 0) passes)
+
+-- and none before the place behind the character that ends it
+follows-behind : (bs : List ℕ) (place k : ℕ) → k ≡ place + run_length (drop place bs) → k < length bs → follows_backquote bs (suc k) ≡ false
+follows-behind bs place k e inside =
+    let left : length (drop place bs) ≡ length bs - place = length-drop place bs in
+    let stops = prefix_len_stops (λ x. nat_eq x (byte "`")) (drop place bs) 0 (omega arith) in
+    subst (λ j. nat_eq (get_or bs j 0) (byte "`") ≡ false) (sym e) (subst (λ b. nat_eq b (byte "`") ≡ false) (get_or-drop place bs (run_length (drop place bs)) 0) stops)
+
+-- a run of another length that begins at this place is passed
+pub Searched-on : (n place run : ℕ) (bs : List ℕ) → 0 < n → run ≡ run_length (take (length bs - place) (drop place bs)) → (run ≡ n → ⊥) → place < length bs →
+    Searched n place bs → Searched n (place + (run + 1)) bs
+Searched-on n place run bs some is other inside s =
+    let size : run ≡ run_length (drop place bs) = is ∙ ap run_length (take_rest bs place) in
+    let bound : run_length (drop place bs) ≤ length (drop place bs) = prefix_len-le-length (λ x. nat_eq x (byte "`")) (drop place bs) in
+    let left : length (drop place bs) ≡ length bs - place = length-drop place bs in
+    record {
+      bound = omega arith;
+      begins = λ fits.
+          let next : suc (place + run) ≡ place + (run + 1) = omega arith in
+          subst (λ k. follows_backquote bs k ≡ false) next (follows-behind bs place (place + run) (ap (λ r. place + r) size) (omega arith));
+      none = λ k less.
+          ⊎_elim (λ before. s.none k before)
+          (λ from.
+          ⊎_elim (λ above. and_right _ (not (follows_backquote bs k)) (not_from_true _ (follows-inside bs place k above (omega arith))))
+          (λ at.
+          let same : place ≡ k = omega arith in
+          let differs : nat_eq (run_length (drop place bs)) n ≡ false = let d : run_length (drop place bs) ≡ n → ⊥ = λ e. other (size ∙ e) in grind (arith, nat_tests) in
+          subst (λ j. is_run_at n bs j ≡ false) same (and_left _ (not (follows_backquote bs place)) differs))
+          (cases_lt place k))
+          (cases_lt k place);
+    }
+
+pub Searched-found : (n place run : ℕ) (bs : List ℕ) → 0 < n → run ≡ run_length (take (length bs - place) (drop place bs)) → run ≡ n → place < length bs →
+    Searched n place bs → nearest_run n bs ≡ Some place
+Searched-found n place run bs some is same inside s =
+    let size : run_length (drop place bs) ≡ n = sym (is ∙ ap run_length (take_rest bs place)) ∙ same in
+    let equal : nat_eq (run_length (drop place bs)) n ≡ true = grind (arith, nat_tests) in
+    let apart : not (follows_backquote bs place) ≡ true = ap not (s.begins (omega arith)) in
+    at-nearest_run n bs place some (and_from _ _ equal apart) s.none
+
+pub Searched-end : (n place : ℕ) (bs : List ℕ) → 0 < n → length bs ≤ place → Searched n place bs → nearest_run n bs ≡ None
+Searched-end n place bs some past s =
+    none-nearest_run n bs (λ k. ⊎_elim (λ less. s.none k less) (λ more. past-no_run n bs k some (omega arith)) (cases_lt k place))
+
+-- ---- the parts that begin with a run
 
 -- how many bytes a code part has, and a bare run
-pub code-length : (n place : ℕ) (behind : List ℕ) → Some place ≡ run_place false n behind → length (bytes_of (run_part n behind)) ≡ n + (place + n)
+pub code-length : (n place : ℕ) (behind : List ℕ) → Some place ≡ nearest_run n behind → length (bytes_of (run_part n behind)) ≡ n + (place + n)
 code-length n place behind e =
-    let fits = (run_place-at false n behind place (sym e)).fits in
+    let fits = (nearest_run-at n behind place (sym e)).fits in
     let front : length (take place behind) ≡ place = omega (arith, length-take place behind) in
     ap (λ o. length (bytes_of (option_map_or (λ p. code n (take p behind)) o (bare n)))) (sym e)
     ∙ length-append (backquotes n) (take place behind ++ backquotes n)
     ∙ omega (arith, length-append (take place behind) (backquotes n), length-replicate n (byte "`"))
 
-pub bare-length : (n : ℕ) (behind : List ℕ) → None ≡ run_place false n behind → length (bytes_of (run_part n behind)) ≡ n
+pub bare-length : (n : ℕ) (behind : List ℕ) → None ≡ nearest_run n behind → length (bytes_of (run_part n behind)) ≡ n
 bare-length n behind e = ap (λ o. length (bytes_of (option_map_or (λ p. code n (take p behind)) o (bare n)))) (sym e) ∙ length-replicate n (byte "`")
 
 -- a part that begins with a run has its bytes
 pub run_part-some : (n : ℕ) (behind : List ℕ) → n ≤ length (bytes_of (run_part n behind))
-run_part-some n behind = by (run_place false n behind)
+run_part-some n behind = by (nearest_run n behind)
   where
     by : (o : Option ℕ) → n ≤ length (bytes_of (option_map_or (λ p. code n (take p behind)) o (bare n)))
     by None = omega (arith, length-replicate n (byte "`"))
@@ -105,25 +148,25 @@ run_star bs i h = eqb-true _ _ (prefix_len_passes (λ x. nat_eq x (byte "`")) bs
 
 -- a part that begins with a run lies within the bytes
 pub run_part-fits : (n : ℕ) (bs : List ℕ) → n ≡ run_length bs → length (bytes_of (run_part n (drop n bs))) ≤ length bs
-run_part-fits n bs e = by (run_place false n (drop n bs)) refl
+run_part-fits n bs e = by (nearest_run n (drop n bs)) refl
   where
-    by : (o : Option ℕ) → run_place false n (drop n bs) ≡ o → length (bytes_of (run_part n (drop n bs))) ≤ length bs
+    by : (o : Option ℕ) → nearest_run n (drop n bs) ≡ o → length (bytes_of (run_part n (drop n bs))) ≤ length bs
     by None is =
         let bound : run_length bs ≤ length bs = prefix_len-le-length (λ x. nat_eq x (byte "`")) bs in
         omega (arith, e, bound, bare-length n (drop n bs) (sym is))
     by (Some place) is =
         let bound : run_length bs ≤ length bs = prefix_len-le-length (λ x. nat_eq x (byte "`")) bs in
-        omega (arith, e, bound, code-length n place (drop n bs) (sym is), (run_place-at false n (drop n bs) place is).fits, length-drop n bs)
+        omega (arith, e, bound, code-length n place (drop n bs) (sym is), (nearest_run-at n (drop n bs) place is).fits, length-drop n bs)
 
 -- and ends with a backquote
 pub run_part-last : (n : ℕ) (bs : List ℕ) → n ≡ run_length bs → 0 < n → get_or bs (length (bytes_of (run_part n (drop n bs))) - 1) 0 ≡ 96
-run_part-last n bs e some = by (run_place false n (drop n bs)) refl
+run_part-last n bs e some = by (nearest_run n (drop n bs)) refl
   where
-    by : (o : Option ℕ) → run_place false n (drop n bs) ≡ o → get_or bs (length (bytes_of (run_part n (drop n bs))) - 1) 0 ≡ 96
+    by : (o : Option ℕ) → nearest_run n (drop n bs) ≡ o → get_or bs (length (bytes_of (run_part n (drop n bs))) - 1) 0 ≡ 96
     by None is =
         subst (λ k. get_or bs (k - 1) 0 ≡ 96) (sym (bare-length n (drop n bs) (sym is))) (run_star bs (n - 1) (omega (arith, e)))
     by (Some place) is =
-        let at = run_place-at false n (drop n bs) place is in
+        let at = nearest_run-at n (drop n bs) place is in
         let last : get_or (drop place (drop n bs)) (n - 1) 0 ≡ 96 = run_star (drop place (drop n bs)) (n - 1) (omega (arith, at.size)) in
         let where' : n + (place + (n - 1)) ≡ (n + (place + n)) - 1 = omega arith in
         subst (λ k. get_or bs (k - 1) 0 ≡ 96) (sym (code-length n place (drop n bs) (sym is)))

@@ -1,17 +1,20 @@
 -- How a text divides into parts, and the spans that it has. A text is the list of its UTF-8 bytes.
-use Rattle.std.specs.Prelude.{◌≡◌, ◌↔◌, ℕ, zero, suc, ◌+◌, ◌-◌, ◌<◌, ◌≤◌, Bool, true, false, ◌&&◌, ◌||◌, ◌==◌, not, List, [], ◌∷◌, ◌++◌, length, take, drop, replicate, take_while, Option, Some, None, Contains, codes, chars, slice_index, nat_eq, nat_le, if◌then◌else◌}
-use Rattle.std.specs.Char.{is_whitespace, encode_utf8}
-use Rattle.std.specs.List.{prefix_len, suffix_len, slice_split, starts_with}
-use Rattle.std.specs.Option.{option_map, option_map_or}
-use Rattle.std.specs.Str.{byte, bytes_eq}
-use Rattle.mention_scan.specs.declared.fence.Fence.{Fence}
-use Rattle.mention_scan.specs.declared.form.Form.{Form}
-use Rattle.mention_scan.specs.declared.form.Form.TheVariants.{User, SilentUser, Group, SilentGroup}
-use Rattle.mention_scan.specs.declared.line.Manner.{Manner}
-use Rattle.mention_scan.specs.declared.line.Manner.TheVariants.{Fenced, Quoted, Plain}
+use Rattle.std.specs.Prelude.{◌≡◌, ◌↔◌, ℕ, zero, suc, ◌+◌, ◌<◌, ◌≤◌, Bool, true, false, ◌&&◌, ◌||◌, ◌==◌, not, List, [], ◌∷◌, ◌++◌, length, map, take, drop, replicate, take_while, Option, None, Contains, codes, chars, flat_map, slice_index, nat_eq, if◌then◌else◌}
+use Rattle.std.specs.Char.{IsScalar, is_whitespace, encode_utf8}
+use Rattle.std.specs.List.{AllZip, find, last_or, list_all, range_with_len, starts_with}
+use Rattle.std.specs.Option.{option_map_or}
+use Rattle.std.specs.Str.{byte}
 use Rattle.mention_scan.specs.declared.span.Span.{Span}
+use Rattle.mention_scan.specs.Fences.{Kind, fence_edge, code_line, quoted_line, plain_line, kind_at, line_at, line_feed, lines_of, run_of}
 
 -- ---- the parts
+
+-- the forms of a span: of a user or of a group, silent or not
+pub data Form : Type 0 where
+  loud_user : Form
+  silent_user : Form
+  loud_group : Form
+  silent_group : Form
 
 -- a part of a text: a line of a fence that holds no span; a run of backquotes, what stands behind it, and a later run of
 -- as many; a run of backquotes alone; a span of a quoted line or of another, by its form and its Inner; a character
@@ -22,37 +25,38 @@ pub data Part : Type 0 where
   span : Bool → Form → List ℕ → Part
   single : ℕ → Part
 
--- the byte at which the lines of a text are split
-abbrev pub line_feed : ℕ
-line_feed = 10
-
 -- what stands before the Inner of each form
 abbrev pub opening : Form → List ℕ
-opening User = codes "@**"
-opening SilentUser = codes "@_**"
-opening Group = codes "@*"
-opening SilentGroup = codes "@_*"
+opening loud_user = codes "@**"
+opening silent_user = codes "@_**"
+opening loud_group = codes "@*"
+opening silent_group = codes "@_*"
 
 -- what stands behind the Inner of each form
 abbrev pub closing : Form → List ℕ
-closing User = codes "**"
-closing SilentUser = codes "**"
-closing Group = codes "*"
-closing SilentGroup = codes "*"
+closing loud_user = codes "**"
+closing silent_user = codes "**"
+closing loud_group = codes "*"
+closing silent_group = codes "*"
 
 -- the forms with `_` are silent
 abbrev pub is_silent : Form → Bool
-is_silent User = false
-is_silent SilentUser = true
-is_silent Group = false
-is_silent SilentGroup = true
+is_silent loud_user = false
+is_silent silent_user = true
+is_silent loud_group = false
+is_silent silent_group = true
 
 -- the forms with one star are of groups
 abbrev pub is_group : Form → Bool
-is_group User = false
-is_group SilentUser = false
-is_group Group = true
-is_group SilentGroup = true
+is_group loud_user = false
+is_group silent_user = false
+is_group loud_group = true
+is_group silent_group = true
+
+-- the form that is silent or not, and of a group or of a user
+abbrev pub form_with : Bool → Bool → Form
+form_with silent group =
+    if group then (if silent then silent_group else loud_group) else (if silent then silent_user else loud_user)
 
 -- a run of `n` backquotes
 abbrev pub backquotes : ℕ → List ℕ
@@ -66,36 +70,22 @@ bytes_of (bare n) = backquotes n
 bytes_of (span quoted form inner) = opening form ++ (inner ++ closing form)
 bytes_of (single c) = encode_utf8 c
 
--- the last character of a part of a line that may hold spans. A line of a fence is no such part, and none of its line follows it
-abbrev pub last_character : Part → Option ℕ
-last_character (fence_line line) = None
-last_character (code n inside) = Some (byte "`")
-last_character (bare n) = Some (byte "`")
-last_character (span quoted form inner) = Some (byte "*")
-last_character (single c) = Some c
-
 -- ---- runs of backquotes
-
--- how often the character stands at the beginning of the bytes
-abbrev pub run_of : ℕ → List ℕ → ℕ
-run_of character bs = prefix_len (λ b. b == character) bs
 
 -- the number of backquotes with which the bytes begin: a run, as long as it can be
 abbrev pub run_length : List ℕ → ℕ
 run_length bs = run_of (byte "`") bs
 
--- how many bytes stand before the nearest run of exactly `n` backquotes, if there is one; a run begins behind another character
-abbrev pub run_place : Bool → ℕ → List ℕ → Option ℕ
-run_place behind_backquote n [] = None
-run_place behind_backquote n (b ∷ bs) =
-    if not behind_backquote && run_length (b ∷ bs) == n then Some 0
-    else option_map suc (run_place (b == byte "`") n bs)
+-- a backquote stands right before this place
+abbrev pub follows_backquote : List ℕ → ℕ → Bool
+follows_backquote bs zero = false
+follows_backquote bs (suc i) = slice_index bs i == byte "`"
 
--- a run of `n` backquotes and what stands behind it: code up to the nearest later run of exactly `n`, else a bare run
-abbrev pub run_part : ℕ → List ℕ → Part
-run_part n behind = option_map_or (λ place. code n (take place behind)) (run_place false n behind) (bare n)
+-- a run of exactly `n` backquotes stands at this place: no backquote is before it, and none behind it
+abbrev pub is_run_at : ℕ → List ℕ → ℕ → Bool
+is_run_at n bs place = run_length (drop place bs) == n && not (follows_backquote bs place)
 
--- ---- spans
+-- ---- where a span begins
 
 -- a span may begin behind whitespace and behind one of ' " ( { [ / <
 abbrev pub may_precede : ℕ → Bool
@@ -106,20 +96,111 @@ may_precede c =
 -- a span may begin behind a character that lets it. `None` is where its line begins: the text begins there too, or a line feed
 -- stands before, which is whitespace
 abbrev pub may_begin : Option ℕ → Bool
-may_begin None = true
-may_begin (Some c) = may_precede c
+may_begin character = option_map_or may_precede character true
+
+-- the last character of what stands before a place in a line, if anything does
+abbrev pub last_character : List ℕ → Option ℕ
+last_character before = last_or None (chars before)
 
 -- a byte of an Inner is neither `*` nor a line feed
 abbrev pub is_inner : ℕ → Bool
 is_inner b = not (b == byte "*" || b == line_feed)
 
--- the Inner that can stand behind an opening of `n` bytes: all that comes before the next `*` or line feed
-abbrev pub inner_behind : ℕ → List ℕ → List ℕ
-inner_behind n bs = take_while is_inner (drop n bs)
+-- ---- which part fits at a place of a line, with `before` standing before the place and `rest` from it on
 
--- the Inner that the bytes have if they begin with this form
+-- code: a run of `n` backquotes, as long as it can be, the nearest later run of exactly `n`, and what is inside of the two
+pub record IsCode (rest : List ℕ) (n : ℕ) (inside : List ℕ) : Type 0 where
+  pub some : 0 < n
+  pub run : run_length rest ≡ n
+  pub stands : take (length inside) (drop n rest) ≡ inside
+  pub ends : is_run_at n (drop n rest) (length inside) ≡ true
+  pub nearest : (place : ℕ) → place < length inside → is_run_at n (drop n rest) place ≡ false
+
+-- a bare run: `n` backquotes, as many as there are
+pub record IsBare (rest : List ℕ) (n : ℕ) : Type 0 where
+  pub some : 0 < n
+  pub run : run_length rest ≡ n
+
+-- a span: it may begin here, and one of the forms stands here, round an Inner of one or more characters
+pub record IsSpan (before rest : List ℕ) (form : Form) (inner : List ℕ) : Type 0 where
+  pub place : may_begin (last_character before) ≡ true
+  pub after : List ℕ
+  pub stands : rest ≡ opening form ++ (inner ++ (closing form ++ after))
+  pub some : 0 < length inner
+  pub within : list_all is_inner inner ≡ true
+
+-- a character
+pub record IsCharacter (rest : List ℕ) (c : ℕ) : Type 0 where
+  pub is : IsScalar c
+  pub after : List ℕ
+  pub stands : rest ≡ encode_utf8 c ++ after
+
+-- the part fits at the place, in a line that is quoted or not
+abbrev pub Fits : Bool → List ℕ → List ℕ → Part → Type 0
+Fits quoted before rest (fence_line line) = ⊥
+Fits quoted before rest (code n inside) = IsCode rest n inside
+Fits quoted before rest (bare n) = IsBare rest n
+Fits quoted before rest (span of_quoted form inner) = (of_quoted ≡ quoted) × IsSpan before rest form inner
+Fits quoted before rest (single c) = IsCharacter rest c
+
+-- the order in which the forms of a part are tried: code, a bare run, a span, any other character
+abbrev pub order_of : Part → ℕ
+order_of (fence_line line) = 0
+order_of (code n inside) = 1
+order_of (bare n) = 2
+order_of (span quoted form inner) = 3
+order_of (single c) = 4
+
+-- the part fits, and none of an earlier form does
+pub record IsFirst (quoted : Bool) (before rest : List ℕ) (part : Part) : Type 0 where
+  pub fits : Fits quoted before rest part
+  pub first : (other : Part) → order_of other < order_of part → Fits quoted before rest other → ⊥
+
+-- ---- what divides a text
+
+-- the parts make up the rest of a line, and each is of the first form that fits at its place
+abbrev pub ArePartsFrom : Bool → List ℕ → List ℕ → List Part → Type 0
+ArePartsFrom quoted before rest [] = rest ≡ []
+ArePartsFrom quoted before rest (part ∷ parts) =
+    IsFirst quoted before rest part
+    × ArePartsFrom quoted (before ++ bytes_of part) (drop (length (bytes_of part)) rest) parts
+
+-- these are the parts of a line of this kind
+abbrev pub ArePartsOf : Kind → List ℕ → List Part → Type 0
+ArePartsOf fence_edge line parts = parts ≡ fence_line line ∷ []
+ArePartsOf code_line line parts = parts ≡ fence_line line ∷ []
+ArePartsOf quoted_line line parts = ArePartsFrom true [] line parts
+ArePartsOf plain_line line parts = ArePartsFrom false [] line parts
+
+-- the places of the lines
+abbrev pub places : List (List ℕ) → List ℕ
+places lines = range_with_len 0 (length lines)
+
+-- the parts of lines in a row; the line feed between two lines is a part too
+abbrev pub joined : List (List Part) → List Part
+joined [] = []
+joined (parts ∷ []) = parts
+joined (parts ∷ next ∷ others) = parts ++ single line_feed ∷ joined (next ∷ others)
+
+-- these parts divide the text: they are those of its lines, in a row
+pub record IsDivision (text : List ℕ) (parts : List Part) : Type 0 where
+  pub by_line : List (List Part)
+  pub each : AllZip (λ i here. ArePartsOf (kind_at (lines_of text) i) (line_at (lines_of text) i) here) (places (lines_of text)) by_line
+  pub row : parts ≡ joined by_line
+
+-- ---- the division of a text, as it is found
+
+-- the place of the nearest run of exactly `n` backquotes, if there is one
+abbrev pub nearest_run : ℕ → List ℕ → Option ℕ
+nearest_run n bs = find (is_run_at n bs) (range_with_len 0 (length bs))
+
+-- a run of `n` backquotes and what stands behind it: code up to the nearest later run of exactly `n`, else a bare run
+abbrev pub run_part : ℕ → List ℕ → Part
+run_part n behind = option_map_or (λ place. code n (take place behind)) (nearest_run n behind) (bare n)
+
+-- the Inner that the bytes have if they begin with this form: all that comes before the next `*` or line feed
 abbrev pub inner_in : Form → List ℕ → List ℕ
-inner_in form bs = inner_behind (length (opening form)) bs
+inner_in form bs = take_while is_inner (drop (length (opening form)) bs)
 
 -- the bytes begin with the form's opening, an Inner of one or more characters, and its closing
 abbrev pub has_form : Form → List ℕ → Bool
@@ -129,148 +210,61 @@ has_form form bs =
 
 -- the form with which the bytes begin, if it is one of the four, of which no two fit
 abbrev pub form_of : List ℕ → Option Form
-form_of bs =
-    if has_form User bs then Some User
-    else (if has_form SilentUser bs then Some SilentUser
-    else (if has_form Group bs then Some Group
-    else (if has_form SilentGroup bs then Some SilentGroup
-    else None)))
+form_of bs = find (λ form. has_form form bs) (loud_user ∷ silent_user ∷ loud_group ∷ silent_group ∷ [])
 
 -- the form of the span that begins the bytes, behind this character, if one does
 abbrev pub span_form : Option ℕ → List ℕ → Option Form
-span_form before bs = if may_begin before then form_of bs else None
+span_form character bs = if may_begin character then form_of bs else None
 
--- ---- a line that may hold spans
+-- the part that begins the rest of a line, behind what stands before it
+abbrev pub first_part : Bool → List ℕ → List ℕ → Part
+first_part quoted before rest =
+    if not (run_length rest == 0) then run_part (run_length rest) (drop (run_length rest) rest)
+    else option_map_or (λ form. span quoted form (inner_in form rest)) (span_form (last_character before) rest) (single (slice_index (chars rest) 0))
 
--- the part that begins the bytes, behind this character: the first case that applies
-abbrev pub first_part : Bool → Option ℕ → List ℕ → Part
-first_part quoted before bs =
-    if not (run_length bs == 0) then run_part (run_length bs) (drop (run_length bs) bs)
-    else option_map_or (λ form. span quoted form (inner_in form bs)) (span_form before bs) (single (slice_index (chars bs) 0))
-
--- the first `n` parts of the bytes, behind this character: a part, and reading goes on after it
-abbrev pub parts : Bool → ℕ → Option ℕ → List ℕ → List Part
-parts quoted n before [] = []
-parts quoted zero before (b ∷ bs) = []
-parts quoted (suc n) before (b ∷ bs) =
+-- the first `n` parts of the rest of a line: a part, and reading goes on after it
+abbrev pub parts_from : Bool → ℕ → List ℕ → List ℕ → List Part
+parts_from quoted n before [] = []
+parts_from quoted zero before (b ∷ bs) = []
+parts_from quoted (suc n) before (b ∷ bs) =
     let part = first_part quoted before (b ∷ bs) in
-    part ∷ parts quoted n (last_character part) (drop (length (bytes_of part)) (b ∷ bs))
+    part ∷ parts_from quoted n (before ++ bytes_of part) (drop (length (bytes_of part)) (b ∷ bs))
 
--- the parts of a line, from left to right: it has no more parts than bytes
+-- the parts of a line that may hold spans, from left to right: it has no more parts than bytes
 abbrev pub parts_of_line : Bool → List ℕ → List Part
-parts_of_line quoted line = parts quoted (length line) None line
+parts_of_line quoted line = parts_from quoted (length line) [] line
 
--- these parts, from left to right, make up the bytes behind this character, and each is the first form that fits at its place
-abbrev pub ArePartsOf : Bool → Option ℕ → List ℕ → List Part → Type 0
-ArePartsOf quoted before bs [] = bs ≡ []
-ArePartsOf quoted before bs (part ∷ parts) =
-    (0 < length bs) × (part ≡ first_part quoted before bs)
-    × ArePartsOf quoted (last_character part) (drop (length (bytes_of part)) bs) parts
+-- the parts of a line of this kind
+abbrev pub parts_of : Kind → List ℕ → List Part
+parts_of fence_edge line = fence_line line ∷ []
+parts_of code_line line = fence_line line ∷ []
+parts_of quoted_line line = parts_of_line true line
+parts_of plain_line line = parts_of_line false line
 
--- ---- fences
+-- the parts of the line at this place
+abbrev pub parts_at : List (List ℕ) → ℕ → List Part
+parts_at lines i = parts_of (kind_at lines i) (line_at lines i)
 
--- bytes without the spaces at their ends
-abbrev pub without_outer_spaces : List ℕ → List ℕ
-without_outer_spaces bs =
-    let behind = drop (run_of (byte " ") bs) bs in
-    take (length behind - suffix_len (λ b. b == byte " ") behind) behind
+-- the division of a text
+unfoldable pub division : List ℕ → List Part
+division text = joined (map (parts_at (lines_of text)) (places (lines_of text)))
 
--- the fence that a line opens with this character, if it begins with a run of three or more of it; what follows the run is its word
-abbrev pub fence_of : ℕ → List ℕ → Option Fence
-fence_of character line =
-    if nat_le 3 (run_of character line) then Some record {
-      character = character;
-      size = run_of character line;
-      quotes = bytes_eq (without_outer_spaces (drop (run_of character line) line)) (codes "quote");
-    }
-    else None
+-- ---- laws of the division
 
--- the fence that a line outside fences opens, if it does: one of backquotes or one of tildes
-abbrev pub fence_opened : List ℕ → Option Fence
-fence_opened line = if nat_le 3 (run_of (byte "`") line) then fence_of (byte "`") line else fence_of (byte "~") line
-
--- nothing but spaces: a run of them reaches the end
-abbrev pub has_only_spaces : List ℕ → Bool
-has_only_spaces bs = run_of (byte " ") bs == length bs
-
--- the line is a run of the fence's character, at least as long as the opening one, followed only by spaces
-abbrev pub closes : Fence → List ℕ → Bool
-closes fence line = nat_le fence.size (run_of fence.character line) && has_only_spaces (drop (run_of fence.character line) line)
-
--- the fence that is open behind a line that is read where this one is open, or none
-abbrev pub fence_behind : Option Fence → List ℕ → Option Fence
-fence_behind None line = fence_opened line
-fence_behind (Some fence) line = if closes fence line then None else Some fence
-
--- ---- lines
-
--- the first character of the line is `>`
-abbrev pub begins_quoted : List ℕ → Bool
-begins_quoted line = starts_with nat_eq line (codes ">")
-
--- how a line outside fences is read: it opens a fence, is quoted, or is neither
-abbrev pub manner_outside : List ℕ → Manner
-manner_outside line =
-    option_map_or (λ fence. Fenced) (fence_opened line) (if begins_quoted line then Quoted else Plain)
-
--- how a line in a fence is read: those of a quote fence are quoted but for the one that closes it
-abbrev pub manner_inside : Fence → List ℕ → Manner
-manner_inside fence line = if fence.quotes && not (closes fence line) then Quoted else Fenced
-
--- how a line is read where this fence is open, or none
-abbrev pub manner_of : Option Fence → List ℕ → Manner
-manner_of None line = manner_outside line
-manner_of (Some fence) line = manner_inside fence line
-
--- the parts of a line that is read in this manner
-abbrev pub parts_read : Manner → List ℕ → List Part
-parts_read Fenced line = fence_line line ∷ []
-parts_read Quoted line = parts_of_line true line
-parts_read Plain line = parts_of_line false line
-
--- the parts of lines of which the first is read where this fence is open, or none; a line feed stands between two of them
-abbrev pub parts_of_lines : Option Fence → List (List ℕ) → List Part
-parts_of_lines fence [] = []
-parts_of_lines fence (line ∷ []) = parts_read (manner_of fence line) line
-parts_of_lines fence (line ∷ next ∷ lines) =
-    parts_read (manner_of fence line) line ++ single line_feed ∷ parts_of_lines (fence_behind fence line) (next ∷ lines)
-
--- these are the parts of a line that is read in this manner
-abbrev pub ArePartsRead : Manner → List ℕ → List Part → Type 0
-ArePartsRead Fenced line parts = parts ≡ fence_line line ∷ []
-ArePartsRead Quoted line parts = ArePartsOf true None line parts
-ArePartsRead Plain line parts = ArePartsOf false None line parts
-
--- these are the parts of lines of which the first is read where this fence is open, or none; a line feed stands between two of them
-abbrev pub ArePartsOfLines : Option Fence → List (List ℕ) → List Part → Type 0
-ArePartsOfLines fence [] parts = parts ≡ []
-ArePartsOfLines fence (line ∷ []) parts = ArePartsRead (manner_of fence line) line parts
-ArePartsOfLines fence (line ∷ next ∷ lines) parts =
-    (here : List Part) × (behind : List Part) × ArePartsRead (manner_of fence line) line here
-    × ArePartsOfLines (fence_behind fence line) (next ∷ lines) behind × (parts ≡ here ++ single line_feed ∷ behind)
-
--- ---- texts
-
--- the lines of a text: it is split at its line feeds
-abbrev pub lines_of : List ℕ → List (List ℕ)
-lines_of text = slice_split (λ b. b == line_feed) text
-
--- the parts of a text, from left to right, with no fence open where it begins
-abbrev pub division : List ℕ → List Part
-division text = parts_of_lines None (lines_of text)
-
--- these parts, from left to right, divide the text: each is the first form that fits at its place
-abbrev pub IsDivision : List ℕ → List Part → Type 0
-IsDivision text parts = ArePartsOfLines None (lines_of text) parts
-
--- these parts divide the text exactly where they are its division: there is one, and no other
+-- parts divide the text exactly where they are its division: there is one, and no other
 abbrev pub HasOneDivision : List ℕ → Type 0
 HasOneDivision text = (parts : List Part) → IsDivision text parts ↔ (parts ≡ division text)
+
+-- the parts of the division, joined, are the text
+abbrev pub IsWhole : List ℕ → Type 0
+IsWhole text = flat_map bytes_of (division text) ≡ text
 
 -- of two runs of backquotes alone that are equally long, a line feed stands between
 abbrev pub BareRunsDiffer : List Part → Type 0
 BareRunsDiffer parts =
     (front between behind : List Part) (n : ℕ) → parts ≡ front ++ (bare n ∷ (between ++ (bare n ∷ behind))) → Contains between (single line_feed)
+
+-- ---- spans
 
 -- the spans among parts of which the first begins at this byte; a span of a quoted line is silent
 abbrev pub spans_from : ℕ → List Part → List Span
@@ -282,6 +276,12 @@ spans_from start (span quoted form inner ∷ parts) =
     let end = start + length (bytes_of (span quoted form inner)) in
     record { start = start; end = end; silent = quoted || is_silent form; group = is_group form } ∷ spans_from end parts
 spans_from start (single c ∷ parts) = spans_from (start + length (bytes_of (single c))) parts
+
+-- the spans are those of parts that divide the text, in order
+pub record AreSpansOf (text : List ℕ) (spans : List Span) : Type 0 where
+  pub parts : List Part
+  pub divide : IsDivision text parts
+  pub are : spans ≡ spans_from 0 parts
 
 -- the spans of a text, in order
 abbrev pub spans_of : List ℕ → List Span

@@ -1,7 +1,8 @@
 //! Fences: lines of a text that stand apart.
-ghost use Rattle.std.specs.Prelude.{◌≡◌, ◌==◌, ◌≤◌, length};
+ghost use Rattle.std.specs.Prelude.{◌≡◌, ◌==◌, ◌≤◌, length, if◌then◌else◌};
 ghost use Rattle.std.specs.List.{suffix_len};
-ghost use Rattle.mention_scan.specs.Division.{closes, fence_behind, fence_of, fence_opened, has_only_spaces, without_outer_spaces};
+ghost use Rattle.std.specs.Option.{option_map_or};
+ghost use Rattle.mention_scan.specs.Fences.{begins_fence, has_only_spaces, is_quote, is_run_alone, mark_length, mark_of, without_outer_spaces};
 
 use crate::run::run_of;
 
@@ -19,17 +20,28 @@ pub struct Fence {
 impl Fence {
     /// The fence that a line outside fences opens.
     pub fn opened(line: &[u8]) -> Option<Fence>
-        ensures { result ≡ fence_opened line.now }
+        ensures { result ≡ (if begins_fence line.now then Some record {
+          character = mark_of line.now;
+          size = mark_length line.now;
+          quotes = is_quote line.now;
+        } else None) }
     {
-        match opened_with(b'`', line) {
-            None => opened_with(b'~', line),
-            fence => fence,
+        let character = *line.first()?;
+        let size = run_of(character, line);
+        if size < LEAST_RUN || !matches!(character, b'`' | b'~') {
+            return None;
         }
+        let quotes = without_outer_spaces(&line[size..]) == b"quote".as_slice();
+        Some(Fence {
+            character,
+            size,
+            quotes,
+        })
     }
 
     /// Whether the line closes the fence.
     pub fn closes(&self, line: &[u8]) -> bool
-        ensures { result ≡ closes self.now line.now }
+        ensures { result ≡ is_run_alone self.now.character self.now.size line.now }
     {
         let run = run_of(self.character, line);
         run >= self.size && has_only_spaces(&line[run..])
@@ -37,7 +49,13 @@ impl Fence {
 
     /// The fence that is open behind a line that is read where this one is open.
     pub fn behind(current: Option<Fence>, line: &[u8]) -> Option<Fence>
-        ensures { result ≡ fence_behind current line.now }
+        ensures { result ≡ option_map_or
+            (λ fence. if is_run_alone fence.character fence.size line.now then None else Some fence) current
+            (if begins_fence line.now then Some record {
+              character = mark_of line.now;
+              size = mark_length line.now;
+              quotes = is_quote line.now;
+            } else None) }
     {
         match current {
             None => Fence::opened(line),
@@ -52,22 +70,6 @@ impl Fence {
     }
 }
 
-/// The fence that a line opens with this character.
-fn opened_with(character: u8, line: &[u8]) -> Option<Fence>
-    ensures { result ≡ fence_of character line.now }
-{
-    let size = run_of(character, line);
-    if size < LEAST_RUN {
-        return None;
-    }
-    let quotes = without_outer_spaces(&line[size..]) == b"quote".as_slice();
-    Some(Fence {
-        character,
-        size,
-        quotes,
-    })
-}
-
 /// The bytes without the spaces at their ends.
 fn without_outer_spaces(bytes: &[u8]) -> &[u8]
     ensures { result.now ≡ without_outer_spaces bytes.now }
@@ -80,7 +82,7 @@ fn without_outer_spaces(bytes: &[u8]) -> &[u8]
 fn has_only_spaces(bytes: &[u8]) -> bool
     ensures { result ≡ has_only_spaces bytes.now }
 {
-    run_of(b' ', bytes) == bytes.len()
+    bytes.iter().all(|b| *b == b' ')
 }
 
 /// How many spaces stand at the end.

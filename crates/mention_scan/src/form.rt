@@ -1,43 +1,58 @@
 //! The four forms of a span.
 ghost use Rattle.std.specs.Prelude.{◌≡◌, ◌+◌, ◌≤◌, ◌||◌, length, true};
 ghost use Rattle.std.specs.List.{prefix_len};
-ghost use Rattle.mention_scan.specs.Division.{opening, closing, is_silent, is_group, is_inner, has_form, form_of, inner_in};
+ghost use Rattle.std.specs.Option.{option_map};
+ghost use Rattle.mention_scan.specs.Division.{opening, closing, is_inner, form_with, has_form, form_of, inner_in};
 
 /// How many bytes an Inner has at least.
 const LEAST_INNER: usize = 1;
 
-/// Whether a span is of a user or of a group, and whether it is silent. The stars stand round its Inner.
+/// A form of a span: of a user or of a group, silent or not. The stars stand round its Inner.
 #[derive(Clone, Copy)]
-pub enum Form {
-    User,
-    SilentUser,
-    Group,
-    SilentGroup,
+pub struct Form {
+    pub silent: bool,
+    pub group: bool,
 }
 
 impl Form {
     /// The form with which these bytes begin.
     pub fn of(bytes: &[u8]) -> Option<Form>
-        ensures { result ≡ form_of bytes.now }
+        ensures { option_map (λ form. form_with form.silent form.group) result ≡ form_of bytes.now }
     {
-        if Form::User.begins(bytes) {
-            return Some(Form::User);
+        let user = Form {
+            silent: false,
+            group: false,
+        };
+        if user.begins(bytes) {
+            return Some(user);
         }
-        if Form::SilentUser.begins(bytes) {
-            return Some(Form::SilentUser);
+        let silent_user = Form {
+            silent: true,
+            group: false,
+        };
+        if silent_user.begins(bytes) {
+            return Some(silent_user);
         }
-        if Form::Group.begins(bytes) {
-            return Some(Form::Group);
+        let group = Form {
+            silent: false,
+            group: true,
+        };
+        if group.begins(bytes) {
+            return Some(group);
         }
-        if Form::SilentGroup.begins(bytes) {
-            return Some(Form::SilentGroup);
+        let silent_group = Form {
+            silent: true,
+            group: true,
+        };
+        if silent_group.begins(bytes) {
+            return Some(silent_group);
         }
         None
     }
 
     /// Whether these bytes begin with this form.
-    pub fn begins(self, bytes: &[u8]) -> bool
-        ensures { result ≡ has_form self bytes.now }
+    fn begins(self, bytes: &[u8]) -> bool
+        ensures { result ≡ has_form (form_with self.silent self.group) bytes.now }
     {
         let opening = self.opening();
         if !bytes.starts_with(opening) {
@@ -49,55 +64,39 @@ impl Form {
 
     /// How many bytes the span has that begins these bytes in this form.
     pub fn length(self, bytes: &[u8]) -> usize
-        requires begins { has_form self bytes.now ≡ true }
-        ensures value { result ≡ length (opening self) + length (inner_in self bytes.now) + length (closing self) }
+        requires begins { has_form (form_with self.silent self.group) bytes.now ≡ true }
+        ensures value { let form = form_with self.silent self.group in
+            result ≡ length (opening form) + length (inner_in form bytes.now) + length (closing form) }
         ensures bound { result ≤ length bytes.now }
     {
         let opening = self.opening().len();
         opening + inner_length(&bytes[opening..]) + self.closing().len()
     }
 
+    /// Whether the span mentions nobody by its form, or since its line is quoted.
+    pub fn is_silent_in(self, quoted: bool) -> bool
+        ensures { result ≡ (quoted || self.silent) }
+    {
+        quoted || self.silent
+    }
+
     /// What stands before the Inner.
     fn opening(self) -> &'static [u8]
-        ensures { result.now ≡ opening self }
+        ensures { result.now ≡ opening (form_with self.silent self.group) }
     {
-        match self {
-            Form::User => b"@**",
-            Form::SilentUser => b"@_**",
-            Form::Group => b"@*",
-            Form::SilentGroup => b"@_*",
+        match (self.silent, self.group) {
+            (false, false) => b"@**",
+            (true, false) => b"@_**",
+            (false, true) => b"@*",
+            (true, true) => b"@_*",
         }
     }
 
     /// What stands behind the Inner.
     fn closing(self) -> &'static [u8]
-        ensures { result.now ≡ closing self }
+        ensures { result.now ≡ closing (form_with self.silent self.group) }
     {
-        match self {
-            Form::User | Form::SilentUser => b"**",
-            Form::Group | Form::SilentGroup => b"*",
-        }
-    }
-
-    /// Whether the span mentions nobody by its form alone.
-    fn is_silent(self) -> bool
-        ensures { result ≡ is_silent self }
-    {
-        matches!(self, Form::SilentUser | Form::SilentGroup)
-    }
-
-    /// Whether the span mentions nobody by its form, or since its line is quoted.
-    pub fn is_silent_in(self, quoted: bool) -> bool
-        ensures { result ≡ (quoted || is_silent self) }
-    {
-        quoted || self.is_silent()
-    }
-
-    /// Whether the span is of a group.
-    pub fn is_group(self) -> bool
-        ensures { result ≡ is_group self }
-    {
-        matches!(self, Form::Group | Form::SilentGroup)
+        if self.group { b"*" } else { b"**" }
     }
 }
 

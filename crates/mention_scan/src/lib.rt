@@ -4,6 +4,7 @@
 mod fence;
 mod form;
 mod inner;
+pub mod laws;
 mod line;
 mod mentions;
 mod run;

@@ -1,11 +1,13 @@
 //! The lines of a text, and the spans of one.
-ghost use Rattle.std.specs.Prelude.{◌≡◌, ◌+◌, ◌^◌, ◌<◌, ◌≤◌, ◌++◌, length, drop, OnOk};
-ghost use Rattle.mention_scan.specs.Division.{bytes_of, manner_of, manner_outside, may_begin, parts_of_line, run_length, run_part, span_form, spans_from};
+ghost use Rattle.std.specs.Prelude.{◌≡◌, ◌+◌, ◌^◌, ◌<◌, ◌≤◌, ◌&&◌, ◌++◌, not, length, drop, OnOk, if◌then◌else◌};
+ghost use Rattle.std.specs.Option.{option_map, option_map_or};
+ghost use Rattle.mention_scan.specs.Fences.{begins_fence, begins_quoted, is_run_alone};
+ghost use Rattle.mention_scan.specs.Division.{bytes_of, form_with, may_begin, parts_of_line, run_length, run_part, span_form, spans_from};
 
 use crate::Span;
 use crate::fence::Fence;
 use crate::form::Form;
-use crate::run::{run_of, run_place};
+use crate::run::{nearest_run, run_of};
 use chat_model::{List, OutOfMemory};
 
 /// How a line is read: as one of a fence that holds no span, as a quoted line, or as one whose spans may be loud.
@@ -19,7 +21,9 @@ pub enum Manner {
 impl Manner {
     /// How a line is read where this fence is open, or none.
     pub fn of(current: Option<Fence>, line: &[u8]) -> Manner
-        ensures { result ≡ manner_of current line.now }
+        ensures { result ≡ option_map_or
+            (λ fence. if fence.quotes && not (is_run_alone fence.character fence.size line.now) then Manner.Quoted else Manner.Fenced) current
+            (if begins_fence line.now then Manner.Fenced else (if begins_quoted line.now then Manner.Quoted else Manner.Plain)) }
     {
         match current {
             None => Manner::outside(line),
@@ -35,7 +39,7 @@ impl Manner {
 
     /// How a line outside fences is read.
     fn outside(line: &[u8]) -> Manner
-        ensures { result ≡ manner_outside line.now }
+        ensures { result ≡ (if begins_fence line.now then Manner.Fenced else (if begins_quoted line.now then Manner.Quoted else Manner.Plain)) }
     {
         if Fence::opened(line).is_some() {
             Manner::Fenced
@@ -74,7 +78,7 @@ pub fn scan_line(
                 start: place,
                 end,
                 silent: form.is_silent_in(quoted),
-                group: form.is_group(),
+                group: form.group,
             })?;
             rest = &rest[length..];
             place = end;
@@ -99,7 +103,7 @@ fn run_part_length(run: usize, bytes: &[u8]) -> usize
     ensures value { result ≡ length (bytes_of (run_part run (drop run bytes.now))) }
     ensures bound { result ≤ length bytes.now }
 {
-    match run_place(run, &bytes[run..]) {
+    match nearest_run(run, &bytes[run..]) {
         Some(inside) => run + inside + run,
         None => run,
     }
@@ -107,7 +111,7 @@ fn run_part_length(run: usize, bytes: &[u8]) -> usize
 
 /// The form of the span that begins these bytes, behind this character.
 fn span_form(before: Option<char>, bytes: &[u8]) -> Option<Form>
-    ensures { result ≡ span_form before bytes.now }
+    ensures { option_map (λ form. form_with form.silent form.group) result ≡ span_form before bytes.now }
 {
     if lets_begin(before) {
         Form::of(bytes)

@@ -1,6 +1,7 @@
 //! Runs of one character.
-ghost use Rattle.std.specs.Prelude.{◌≡◌, ◌<◌, ◌≤◌, false, length};
-ghost use Rattle.mention_scan.specs.Division.{run_of, run_length, run_place};
+ghost use Rattle.std.specs.Prelude.{◌≡◌, ◌<◌, ◌≤◌, length};
+ghost use Rattle.mention_scan.specs.Fences.{run_of};
+ghost use Rattle.mention_scan.specs.Division.{nearest_run};
 
 /// How often the character stands at the beginning of these bytes.
 pub fn run_of(character: u8, bytes: &[u8]) -> usize
@@ -15,11 +16,11 @@ pub fn run_of(character: u8, bytes: &[u8]) -> usize
     bytes.len()
 }
 
-/// How many bytes stand before the nearest run of exactly `n` backquotes. A search that fails goes to the end of the line,
+/// Where the nearest run of exactly `n` backquotes stands. A search that fails goes to the end of the line,
 /// and none for that `n` follows it in the line, since no run of that length is left.
-pub fn run_place(n: usize, bytes: &[u8]) -> Option<usize>
+pub fn nearest_run(n: usize, bytes: &[u8]) -> Option<usize>
     requires some { 0 < n }
-    ensures { result ≡ run_place false n bytes.now }
+    ensures { result ≡ nearest_run n bytes.now }
 {
     let mut place = 0;
     while place < bytes.len() {

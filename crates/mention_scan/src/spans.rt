@@ -1,7 +1,7 @@
 //! The spans of a text.
-ghost use Rattle.std.specs.Prelude.{◌≡◌, ◌==◌, ◌+◌, ◌^◌, ◌<◌, ◌≤◌, ◌++◌, length, All, IfOk, OnOk, flat_map};
+ghost use Rattle.std.specs.Prelude.{◌≡◌, ◌==◌, ◌+◌, ◌^◌, ◌<◌, ◌≤◌, ◌++◌, true, false, length, All, IfOk, OnOk};
 ghost use Rattle.std.specs.List.{position_or_len};
-ghost use Rattle.mention_scan.specs.Division.{BareRunsDiffer, HasOneDivision, bytes_of, division, manner_of, parts_read, spans_from, spans_of, LiesWithin};
+ghost use Rattle.mention_scan.specs.Division.{AreSpansOf, LiesWithin, parts_of_line, spans_from, spans_of};
 
 use crate::Span;
 use crate::fence::Fence;
@@ -16,17 +16,9 @@ use std::alloc::Global;
 /// where it finds none, that took the time of the line. But then it is a bare run, and no other bare run of its line is as
 /// long. So the time grows no faster than the text's length times the number of different lengths of its runs.
 pub fn scan(alloc: Global, text: &str) -> Result<List<Span>, OutOfMemory>
+    ensures divided { IfOk result (λ s. AreSpansOf text.now s) }
     ensures spans { IfOk result (λ s. s ≡ spans_of text.now) }
     ensures within { IfOk result (λ s. All (LiesWithin text.now) s) }
-
-    // The division of a text leaves nothing of it out.
-    ensures whole { flat_map bytes_of (division text.now) ≡ text.now }
-
-    // Parts that divide the text are its division, and no others do.
-    ensures one { HasOneDivision text.now }
-
-    // In a line the search for the run that ends a run fails once at most for each length of a run.
-    ensures bare { BareRunsDiffer (division text.now) }
 {
     let mut found = List::new(alloc);
     let mut rest = text;
@@ -35,7 +27,12 @@ pub fn scan(alloc: Global, text: &str) -> Result<List<Span>, OutOfMemory>
     'lines: loop {
         let length = line_length(rest.as_bytes());
         let line = &rest[..length];
-        scan_in_fence(current, line, start, &mut found)?;
+        scan_in(
+            Manner::of(current, line.as_bytes()),
+            line,
+            start,
+            &mut found,
+        )?;
         if length == rest.len() {
             return Ok(found);
         }
@@ -45,17 +42,19 @@ pub fn scan(alloc: Global, text: &str) -> Result<List<Span>, OutOfMemory>
     }
 }
 
-/// Adds the spans of a line that begins at this byte of the text and is read where this fence is open.
-fn scan_in_fence(
-    current: Option<Fence>,
+/// Adds the spans of a line that begins at this byte of the text and is read in this manner.
+fn scan_in(
+    manner: Manner,
     line: &str,
     start: usize,
     found: &mut List<Span>,
 ) -> Result<(), OutOfMemory>
     requires fits { start + length line.now < 2 ^ 64 }
-    ensures { OnOk result (found.new ≡ found.old ++ spans_from start (parts_read (manner_of current line.now) line.now)) }
+    ensures fenced { manner ≡ Manner.Fenced → OnOk result (found.new ≡ found.old) }
+    ensures quoted { manner ≡ Manner.Quoted → OnOk result (found.new ≡ found.old ++ spans_from start (parts_of_line true line.now)) }
+    ensures plain { manner ≡ Manner.Plain → OnOk result (found.new ≡ found.old ++ spans_from start (parts_of_line false line.now)) }
 {
-    match Manner::of(current, line.as_bytes()) {
+    match manner {
         Manner::Fenced => Ok(()),
         Manner::Quoted => scan_line(line, start, true, found),
         Manner::Plain => scan_line(line, start, false, found),

@@ -9,10 +9,10 @@ use Rattle.chat_model.specs.declared.ids.UserId.{UserId}
 use Rattle.chat_model.specs.declared.trigger.Way.{Way}
 use Rattle.chat_model.specs.declared.trigger.Way.TheVariants.{Mail, Push}
 use Rattle.chat_model.specs.declared.trigger.Trigger.{Trigger}
-use Rattle.notice_ledger.specs.Journal.{Occurrence, occurrence}
-use Rattle.notice_ledger.specs.Values.{SentMessage, people, message_of, messages, deal_count}
-use Rattle.notice_ledger.specs.Triggers.{trigger}
-use Rattle.notice_ledger.specs.Owed.{Notice, is_of, same_way, notice_of, owed_of, owed_by, notices, turn, waiting}
+use Rattle.notice_ledger.specs.Past.Journal.{Occurrence, occurrence}
+use Rattle.notice_ledger.specs.Past.Values.{SentMessage, people, message_of, messages, deal_count}
+use Rattle.notice_ledger.specs.Past.Triggers.{trigger}
+use Rattle.notice_ledger.specs.Past.Owed.{Notice, is_of, same_way, notice_of, owed_of, owed_by, notices, turn, waiting}
 use Rattle.notice_ledger.proofs.Lists.{AllByRecursion-append, AllByRecursion-weaker, AllByRecursion-filter_map, by_appending}
 use Rattle.notice_ledger.proofs.Appended.{notices-nil, notices-append}
 use Rattle.notice_ledger.proofs.Waiting.{IsOwedBy, owed_by-each}

@@ -12,10 +12,10 @@ use Rattle.chat_model.specs.declared.event.Stamped.{Stamped}
 use Rattle.chat_model.specs.declared.ids.UserId.{UserId}
 use Rattle.chat_model.specs.declared.ids.ChannelId.{ChannelId}
 use Rattle.chat_model.specs.declared.ids.GroupId.{GroupId}
-use Rattle.notice_ledger.specs.Journal.{Occurrence, occurrence, occurrences, occurrences_after, last_given, last_stamp, first_behind}
-use Rattle.notice_ledger.specs.Values.{person_of, people, channel_of, channels, message_of, messages, makes_deal, deal_count, group_of, groups, membership_change, is_member, subscription_change, subscribed}
-use Rattle.notice_ledger.specs.Owed.{owed_by, notices}
-use Rattle.notice_ledger.specs.Outbox.{entries_by, outbox}
+use Rattle.notice_ledger.specs.Past.Journal.{Occurrence, occurrence, occurrences, occurrences_after, last_given, last_stamp, first_behind}
+use Rattle.notice_ledger.specs.Past.Values.{person_of, people, channel_of, channels, message_of, messages, makes_deal, deal_count, group_of, groups, membership_change, is_member, subscription_change, subscribed}
+use Rattle.notice_ledger.specs.Past.Owed.{owed_by, notices}
+use Rattle.notice_ledger.specs.Past.Outbox.{entries_by, outbox}
 
 occurrences_after-append : (past j : List Stamped) (s : Stamped) → occurrences_after past (j ++ s ∷ []) ≡ occurrences_after past j ++ occurrence (past ++ j) s ∷ []
 occurrences_after-append past [] s = ap (λ p. occurrence p s ∷ []) (sym (append-nil past))

@@ -3,9 +3,9 @@ use Rattle.std.proofs.Common.{◌≡◌, ℕ, ◌+◌, ◌<◌, ◌≤◌, Bool,
 use Rattle.std.specs.Prelude.{Option, Some, None, filter, option_to_list}
 use Rattle.std.specs.List.{AllByRecursion}
 use Rattle.chat_model.specs.declared.event.Stamped.{Stamped}
-use Rattle.notice_ledger.specs.Journal.{occurrence}
-use Rattle.notice_ledger.specs.Values.{SentMessage, message_of, messages}
-use Rattle.notice_ledger.specs.Owed.{owed_of, owed_by, notices}
+use Rattle.notice_ledger.specs.Past.Journal.{occurrence}
+use Rattle.notice_ledger.specs.Past.Values.{SentMessage, message_of, messages}
+use Rattle.notice_ledger.specs.Past.Owed.{owed_of, owed_by, notices}
 use Rattle.std.specs.Option.{option_map_or}
 use Rattle.notice_ledger.proofs.Lists.{AllByRecursion-append, AllByRecursion-weaker, by_appending}
 use Rattle.notice_ledger.proofs.Appended.{notices-nil, notices-append, messages-append}

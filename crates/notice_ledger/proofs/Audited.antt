@@ -16,14 +16,14 @@ use Rattle.chat_model.specs.declared.row.Cause.TheVariants.{Read, Deleted, Switc
 use Rattle.chat_model.specs.declared.trigger.Way.{Way}
 use Rattle.chat_model.specs.declared.trigger.Way.TheVariants.{Mail, Push}
 use Rattle.chat_model.specs.Settings.{default_settings}
-use Rattle.notice_ledger.specs.declared.account.Account.{Account}
-use Rattle.notice_ledger.specs.declared.account.Account.TheVariants.{Flight, Held, Ready, Handed, Cancelled, LiveQueue}
-use Rattle.notice_ledger.specs.Journal.{Occurrence, occurrence}
-use Rattle.notice_ledger.specs.Triggers.{mention_switch}
-use Rattle.notice_ledger.specs.Owed.{Notice, notices, same_way, owed_by, turn, is_turn_of, decided, account_of, waiting}
-use Rattle.notice_ledger.specs.Due.{batch_rows}
-use Rattle.notice_ledger.specs.Outbox.{outbox, entries_by, mail_entry, by_message}
-use Rattle.notice_ledger.specs.Audit.{same_account, owed_with, in_64_bits, counts_of}
+use Rattle.notice_ledger.specs.declared.accounts.Account.{Account}
+use Rattle.notice_ledger.specs.declared.accounts.Account.TheVariants.{Flight, Held, Ready, Handed, Cancelled, LiveQueue}
+use Rattle.notice_ledger.specs.Past.Journal.{Occurrence, occurrence}
+use Rattle.notice_ledger.specs.Past.Triggers.{mention_switch}
+use Rattle.notice_ledger.specs.Past.Owed.{Notice, notices, same_way, owed_by, turn, is_turn_of, decided, account_of, waiting}
+use Rattle.notice_ledger.specs.Past.Due.{batch_rows}
+use Rattle.notice_ledger.specs.Past.Outbox.{outbox, entries_by, mail_entry, by_message}
+use Rattle.notice_ledger.specs.Past.Audit.{same_account, owed_with, in_64_bits, counts_of}
 use Rattle.notice_ledger.proofs.Lists.{filter_none, by_appending}
 use Rattle.notice_ledger.proofs.Appended.{notices-nil, notices-append, outbox-nil, outbox-append}
 use Rattle.notice_ledger.proofs.Waiting.{is_turn, waiting-nil, waiting-append}

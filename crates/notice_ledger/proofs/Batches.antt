@@ -1,4 +1,4 @@
--- A user's batch rows, due moment, and pending rows, over the notices that wait.
+-- A user's batch rows and due moment, over the notices that wait.
 use Rattle.std.proofs.Common.{◌≡◌, ◌+◌, ◌≤◌, Bool, true, false, ◌&&◌, ◌==◌, cond, List, [], ◌∷◌, map, refl, sym, ap, ◌∙◌}
 use Rattle.std.specs.Prelude.{Option, Some, None, option_map, is_none, filter, find, fold, if◌then◌else◌}
 use Rattle.std.specs.List.{AllByRecursion, filter_map, reduce, cons_option}
@@ -7,16 +7,12 @@ use Rattle.std.proofs.lemmas.Bool.{le-ltb, le-leb}
 use Rattle.std.proofs.Math.Bool.{and_comm}
 use Rattle.chat_model.specs.declared.event.Stamped.{Stamped}
 use Rattle.chat_model.specs.declared.ids.UserId.{UserId}
-use Rattle.chat_model.specs.declared.row.Row.TheVariants as row
 use Rattle.chat_model.specs.declared.trigger.Way.TheVariants.{Mail}
-use Rattle.notice_ledger.specs.declared.account.Account.TheVariants.{Ready, Handed, Cancelled}
-use Rattle.chat_model.specs.declared.row.Cause.TheVariants.{SwitchedOff}
-use Rattle.notice_ledger.specs.Journal.{Occurrence}
-use Rattle.notice_ledger.specs.Values.{settings}
-use Rattle.notice_ledger.specs.Owed.{Notice, notices, turn, waiting, same_way, decided, switch_on}
-use Rattle.notice_ledger.specs.Due.{batch_rows, is_batch_row, due, earlier}
-use Rattle.notice_ledger.specs.Outbox.{by_message, put_by_message}
-use Rattle.notice_ledger.specs.Rows.{pending_row, stage_of, waiting_row}
+use Rattle.notice_ledger.specs.Past.Journal.{Occurrence}
+use Rattle.notice_ledger.specs.Past.Values.{settings}
+use Rattle.notice_ledger.specs.Past.Owed.{Notice, notices, turn, waiting, same_way, decided, switch_on}
+use Rattle.notice_ledger.specs.Past.Due.{batch_rows, is_batch_row, due, earlier}
+use Rattle.notice_ledger.specs.Past.Outbox.{by_message, put_by_message}
 use Rattle.notice_ledger.proofs.Lists.{filter-filter, find-filter, first_of}
 use Rattle.notice_ledger.proofs.Ascending.{Ascends, Ascends-filter, notices-by_place, notices-by_number}
 
@@ -70,26 +66,3 @@ due-waiting j u =
     ap (option_map (λ o. o.at + (settings j u).period)) (reduce-earlier (batch_rows j u) (Ascends-filter (λ n. n.owing.place) (is_batch_row j u) (notices j) (notices-by_place j)))
     ∙ (map-twice (λ o. o.at + (settings j u).period) (λ n. n.owing) (first_of (batch_rows j u))
     ∙ ap (option_map (λ n. n.owing.at + (settings j u).period)) (ap first_of (batch_rows-waiting j u) ∙ find-filter (is_mail_of u) (waiting j)))
-
--- one notice has a row where it had no turn
-pending_row-turn : (j : List Stamped) (n : Notice) (t : Option Occurrence) → option_map (λ s. row.Pending n.user n.number n.way n.trigger n.deal s) (stage_of (option_map_or (decided n) t Ready)) ≡ cond (is_none t) (Some (waiting_row n)) None
-pending_row-turn j n None = refl
-pending_row-turn j n (Some t) =
-    elim (switch_on t.past n.user n.way) as (λ b. option_map (λ s. row.Pending n.user n.number n.way n.trigger n.deal s) (stage_of (if b then Handed else Cancelled SwitchedOff)) ≡ None) [
-      | true ↦ refl
-      | false ↦ refl
-    ]
-
-pending_rows-turn : (j : List Stamped) (ns : List Notice) → filter_map (pending_row j) ns ≡ map waiting_row (filter (λ n. is_none (turn j n)) ns)
-pending_rows-turn j [] = refl
-pending_rows-turn j (n ∷ ns) =
-    ap (λ r. cons_option r (filter_map (pending_row j) ns)) (pending_row-turn j n (turn j n))
-    ∙ (elim (is_none (turn j n)) as (λ b. cons_option (cond b (Some (waiting_row n)) None) (filter_map (pending_row j) ns) ≡ map waiting_row (cond b (n ∷ filter (λ n. is_none (turn j n)) ns) (filter (λ n. is_none (turn j n)) ns))) [
-      | true ↦ ap (λ rs. waiting_row n ∷ rs) (pending_rows-turn j ns)
-      | false ↦ pending_rows-turn j ns
-    ])
-
--- the rows of pending notices are those of the notices that wait
-pub pending_rows-waiting : (j : List Stamped) → filter_map (pending_row j) (notices j) ≡ map waiting_row (waiting j)
-unfolding waiting
-pending_rows-waiting j = pending_rows-turn j (notices j)

@@ -13,9 +13,10 @@ use Rattle.chat_model.specs.declared.request.Request.TheVariants.{AddGroup}
 use Rattle.chat_model.specs.Ascending.{ascending_once_by}
 use Rattle.chat_model.proofs.OnceEach as lists
 use Rattle.notice_ledger.specs.InOrder.{in_order, is_ascending, is_in_order}
-use Rattle.notice_ledger.specs.Lawful.{may_stand}
-use Rattle.notice_ledger.specs.Refusals.{Rule, first_broken, is_taken, most_items, name_rules, refusal, rule}
-use Rattle.notice_ledger.specs.Values.{groups, is_one_of, is_user}
+use Rattle.notice_ledger.specs.Past.Lawful.{may_stand}
+use Rattle.notice_ledger.specs.Past.Refusals.{Rule, first_broken, is_taken, name_rules, refusal, rule}
+use Rattle.notice_ledger.specs.Limits.{most_items}
+use Rattle.notice_ledger.specs.Past.Values.{groups, is_one_of, is_user}
 
 -- ---- users that ascend
 

@@ -10,3 +10,6 @@ pub mod Sums
 pub mod Apart
 pub mod Places
 pub mod InOrder
+pub mod RowKeys
+pub mod RowOrder
+pub mod Refused

@@ -1,7 +1,8 @@
 -- Lists: filters, and what holds of each element.
-use Rattle.std.proofs.Common.{◌≡◌, Bool, true, false, ◌&&◌, cond, List, [], ◌∷◌, ◌++◌, Option, Some, None, refl, sym, ap, subst}
-use Rattle.std.specs.Prelude.{filter, find}
-use Rattle.std.proofs.lemmas.List.{append_assoc, append-nil}
+use Rattle.std.proofs.Common.{◌≡◌, ℕ, ◌+◌, ◌<◌, Bool, true, false, ◌&&◌, cond, List, [], ◌∷◌, ◌++◌, length, take, get_or, Option, Some, None, refl, sym, ap, ◌∙◌, subst, arith}
+use Rattle.std.specs.Prelude.{filter, find, count_by, is_some}
+use Rattle.std.proofs.lemmas.List.{append_assoc, append-nil, take_more}
+use Rattle.std.proofs.lemmas.List.Sums.{sum_by-cons}
 use Rattle.std.specs.List.{AllByRecursion, filter_map, flat_map, cons_option}
 
 -- a filter that keeps each element
@@ -75,3 +76,16 @@ find-filter p (x ∷ xs) =
       | true ↦ refl
       | false ↦ find-filter p xs
     ]
+
+-- the elements up to the next one
+pub take_next : {X : Type 0} (xs : List X) (i : ℕ) (x : X) → i < length xs → x ≡ get_or xs i x → take (i + 1) xs ≡ take i xs ++ x ∷ []
+take_next xs i x lt at = take_more xs i x lt ∙ ap (λ y. take i xs ++ y ∷ []) (sym at)
+
+-- how many elements give something
+pub count_by-filter_map : {X Y : Type 0} (h : X → Option Y) (xs : List X) → count_by (λ x. is_some (h x)) xs ≡ length (filter_map h xs)
+count_by-filter_map h [] = refl
+count_by-filter_map {X} {Y} h (x ∷ xs) = sum_by-cons (λ y. cond (is_some (h y)) 1 0) x xs ∙ by (h x) (count_by-filter_map h xs)
+  where
+    by : (o : Option Y) → count_by (λ y. is_some (h y)) xs ≡ length (filter_map h xs) → cond (is_some o) 1 0 + count_by (λ y. is_some (h y)) xs ≡ length (cons_option o (filter_map h xs))
+    by None e = omega arith
+    by (Some y) e = omega arith

@@ -13,10 +13,10 @@ use Rattle.chat_model.specs.declared.ids.MessageId.{MessageId}
 use Rattle.chat_model.specs.declared.row.Cause.TheVariants.{SwitchedOff}
 use Rattle.chat_model.specs.declared.trigger.Way.{Way}
 use Rattle.chat_model.specs.declared.trigger.Way.TheVariants.{Mail, Push}
-use Rattle.notice_ledger.specs.declared.account.Account.TheVariants.{NotOwed, Ready, Handed, Cancelled}
-use Rattle.notice_ledger.specs.Journal.{Occurrence, occurrence}
-use Rattle.notice_ledger.specs.Owed.{Notice, is_of, same_way, notices, owed_by, turn, is_turn_of, is_mail_turn_of, switch_on, account_of, account, decided, is_cancelled, waiting}
-use Rattle.notice_ledger.specs.Outbox.{mail_entry, entries_by, outbox}
+use Rattle.notice_ledger.specs.declared.accounts.Account.TheVariants.{NotOwed, Ready, Handed, Cancelled}
+use Rattle.notice_ledger.specs.Past.Journal.{Occurrence, occurrence}
+use Rattle.notice_ledger.specs.Past.Owed.{Notice, is_of, same_way, notices, owed_by, turn, is_turn_of, is_mail_turn_of, switch_on, account_of, account, decided, is_cancelled, waiting}
+use Rattle.notice_ledger.specs.Past.Outbox.{mail_entry, entries_by, outbox}
 use Rattle.notice_ledger.specs.Conserved.{items_of}
 use Rattle.notice_ledger.proofs.Lists.{by_appending}
 use Rattle.notice_ledger.proofs.Appended.{notices-nil, notices-append, outbox-nil, outbox-append}

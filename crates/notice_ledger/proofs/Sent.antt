@@ -11,10 +11,10 @@ use Rattle.chat_model.specs.declared.ids.UserId.{UserId}
 use Rattle.chat_model.specs.declared.trigger.Way.{Way}
 use Rattle.chat_model.specs.declared.trigger.Way.TheVariants.{Mail, Push}
 use Rattle.chat_model.specs.declared.trigger.Trigger.{Trigger}
-use Rattle.notice_ledger.specs.Journal.{Occurrence, occurrence}
-use Rattle.notice_ledger.specs.Values.{numbered, SentMessage, sent_by, message_of, messages, users, makes_deal, deal_count}
-use Rattle.notice_ledger.specs.Triggers.{trigger}
-use Rattle.notice_ledger.specs.Owed.{Notice, notice_of, owed_of, owed_by, notices, turn, waiting}
+use Rattle.notice_ledger.specs.Past.Journal.{Occurrence, occurrence}
+use Rattle.notice_ledger.specs.Past.Values.{numbered, SentMessage, sent_by, message_of, messages, users, makes_deal, deal_count}
+use Rattle.notice_ledger.specs.Past.Triggers.{trigger}
+use Rattle.notice_ledger.specs.Past.Owed.{Notice, notice_of, owed_of, owed_by, notices, turn, waiting}
 use Rattle.notice_ledger.proofs.Lists.{AllByRecursion-append, AllByRecursion-weaker, AllByRecursion-filter_map, AllByRecursion-flat_map, by_appending}
 use Rattle.notice_ledger.proofs.Appended.{notices-nil, notices-append, messages-nil, messages-append, deal_count-nil, deal_count-append}
 use Rattle.notice_ledger.proofs.Ascending.{AllByRecursion-filter}

@@ -11,10 +11,10 @@ use Rattle.chat_model.specs.declared.ids.UserId.{UserId}
 use Rattle.chat_model.specs.declared.trigger.Way.{Way}
 use Rattle.chat_model.specs.declared.trigger.Way.TheVariants.{Mail, Push}
 use Rattle.chat_model.specs.declared.trigger.Trigger.{Trigger}
-use Rattle.notice_ledger.specs.Journal.{Occurrence, occurrence, first_behind}
-use Rattle.notice_ledger.specs.Values.{SentMessage, message_of, messages, users, deal_count}
-use Rattle.notice_ledger.specs.Triggers.{trigger}
-use Rattle.notice_ledger.specs.Owed.{Notice, notice_of, owed_of, owed_by, notices, turn, is_turn_of, waiting}
+use Rattle.notice_ledger.specs.Past.Journal.{Occurrence, occurrence, first_behind}
+use Rattle.notice_ledger.specs.Past.Values.{SentMessage, message_of, messages, users, deal_count}
+use Rattle.notice_ledger.specs.Past.Triggers.{trigger}
+use Rattle.notice_ledger.specs.Past.Owed.{Notice, notice_of, owed_of, owed_by, notices, turn, is_turn_of, waiting}
 use Rattle.notice_ledger.proofs.Lists.{AllByRecursion-append, AllByRecursion-weaker, AllByRecursion-filter_map, AllByRecursion-flat_map, by_appending, filter_same_where, filter_all_where, filter-filter}
 use Rattle.notice_ledger.proofs.Appended.{notices-nil, notices-append, first_behind-nil, first_behind-append}
 

@@ -9,9 +9,10 @@ use Rattle.chat_model.specs.declared.row.Row.{Row}
 use Rattle.chat_model.specs.declared.row.Row.TheVariants as row
 use Rattle.chat_model.specs.declared.trigger.Way.{Way}
 use Rattle.chat_model.specs.declared.trigger.Way.TheVariants.{Mail, Push}
-use Rattle.notice_ledger.specs.declared.account.Account.TheVariants.{NotOwed}
-use Rattle.notice_ledger.specs.Owed.{same_way, account, is_cancelled}
-use Rattle.notice_ledger.specs.Lawful.{lawful}
+use Rattle.notice_ledger.specs.declared.accounts.Account.{Account}
+use Rattle.notice_ledger.specs.declared.accounts.Account.TheVariants.{NotOwed}
+use Rattle.notice_ledger.specs.Past.Owed.{same_way, is_cancelled}
+use Rattle.notice_ledger.specs.Owed.{account}
 
 -- a row is the pending row of a notice
 abbrev pub is_pending_row : UserId → MessageId → Way → Row → Bool
@@ -28,12 +29,23 @@ abbrev pub items_in_row : UserId → MessageId → Way → Row → ℕ
 items_in_row u m w (row.Outbox number entry spooled) = items_of u m w entry
 items_in_row u m w _ = 0
 
--- the pending rows of a notice, and its items in the outbox rows of its way
-abbrev pub places_of : UserId → MessageId → Way → List Row → ℕ
-places_of u m w rows = count_by (is_pending_row u m w) rows + sum_by (items_in_row u m w) rows
+-- how many pending rows a notice has
+abbrev pub pending_places : UserId → MessageId → Way → List Row → ℕ
+pending_places u m w rows = count_by (is_pending_row u m w) rows
 
--- each owed notice has one pending row, or is one item of the outbox, or is cancelled, and never two of these;
--- a notice that is not owed has no row and no item
+-- how many items it has in the outbox rows of its way
+abbrev pub outbox_places : UserId → MessageId → Way → List Row → ℕ
+outbox_places u m w rows = sum_by (items_in_row u m w) rows
+
+-- one where it is cancelled
+abbrev pub cancelled_places : Account → ℕ
+cancelled_places account = if is_cancelled account then 1 else 0
+
+-- the places of a notice in rows and in a journal: as a pending row, as an item of the outbox, as cancelled
+abbrev pub places_of : List Stamped → List Row → UserId → MessageId → Way → ℕ
+places_of j rows u m w = pending_places u m w rows + outbox_places u m w rows + cancelled_places (account j u m w)
+
+-- each owed notice has one place, and so never two; a notice that is not owed has none
 pub record IsConserved (j : List Stamped) (rows : List Row) : Type 0 where
-  pub owed : (u : UserId) (m : MessageId) (w : Way) → account (lawful j) u m w ≢ NotOwed → places_of u m w rows + (if is_cancelled (account (lawful j) u m w) then 1 else 0) ≡ 1
-  pub not_owed : (u : UserId) (m : MessageId) (w : Way) → account (lawful j) u m w ≡ NotOwed → places_of u m w rows ≡ 0
+  pub owed : (u : UserId) (m : MessageId) (w : Way) → account j u m w ≢ NotOwed → places_of j rows u m w ≡ 1
+  pub not_owed : (u : UserId) (m : MessageId) (w : Way) → account j u m w ≡ NotOwed → places_of j rows u m w ≡ 0

@@ -1,41 +1,18 @@
--- The journal as occurrences, and the two ways in which a definition looks at it: the first event behind
--- a place that passes a test, and the value that the last change gives.
-use Rattle.std.specs.Prelude.{ℕ, ◌++◌, Bool, ◌&&◌, List, [], ◌∷◌, Option, unwrap_or, length, nat_lt, find, fold, max}
+-- The stamps of any list of events, and how many deals it made.
+use Rattle.std.specs.Prelude.{ℕ, List}
 use Rattle.chat_model.specs.declared.event.Stamped.{Stamped}
-use Rattle.chat_model.specs.declared.event.Event.{Event}
+use Rattle.notice_ledger.specs.Past.Journal as past
+use Rattle.notice_ledger.specs.Past.Values as values
+use Rattle.notice_ledger.specs.Lawful.{lawful}
 
--- an event with its place in the journal, from 0, and the events before it
-pub record Occurrence : Type 0 where
-  pub place : ℕ
-  pub past : List Stamped
-  pub at : ℕ
-  pub event : Event
-
--- an event behind these
-abbrev pub occurrence : List Stamped → Stamped → Occurrence
-occurrence past s = record { place = length past; past = past; at = s.at; event = s.event }
-
--- events, each with those before it, behind these
-abbrev pub occurrences_after : List Stamped → List Stamped → List Occurrence
-occurrences_after past [] = []
-occurrences_after past (s ∷ ss) = occurrence past s ∷ occurrences_after (past ++ s ∷ []) ss
-
--- each event of the journal, in order
-unfoldable pub occurrences : List Stamped → List Occurrence
-occurrences j = occurrences_after [] j
-
--- the first event behind a place that passes a test
-abbrev pub first_behind : ℕ → (Occurrence → Bool) → List Stamped → Option Occurrence
-first_behind place test j = find (λ o. nat_lt place o.place && test o) (occurrences j)
-
--- the value that the last of the changes in a journal gives, or the one that stood at the start
-abbrev pub last_given : {A : Type 0} → (Occurrence → Option A) → A → List Stamped → A
-last_given change start j = fold (λ before o. unwrap_or (change o) before) start (occurrences j)
-
--- the last stamp, 0 where there is none
+-- the last stamp of the lawful events, 0 where there is none
 abbrev pub last_stamp : List Stamped → ℕ
-last_stamp j = fold (λ before s. s.at) 0 j
+last_stamp j = past.last_stamp (lawful j)
 
 -- what is stamped at a moment: the greater of the moment and the last stamp
 abbrev pub stamp : List Stamped → ℕ → ℕ
-stamp j now = max now (last_stamp j)
+stamp j now = past.stamp (lawful j) now
+
+-- the number of deals of the lawful events
+abbrev pub deal_count : List Stamped → ℕ
+deal_count j = values.deal_count (lawful j)

@@ -1,34 +1,21 @@
--- Which events are lawful after a journal.
-use Rattle.std.specs.Prelude.{◌≡◌, ℕ, Bool, true, false, ◌&&◌, ◌==◌, nat_le, List, [], ◌∷◌, ◌++◌, is_none, if◌then◌else◌}
-use Rattle.std.specs.Option.{option_map_or}
+-- The lawful events of any list of events.
+use Rattle.std.specs.Prelude.{◌≡◌, Bool, List, [], ◌∷◌, ◌++◌, if◌then◌else◌}
 use Rattle.chat_model.specs.declared.event.Stamped.{Stamped}
-use Rattle.chat_model.specs.declared.event.Event.{Event}
-use Rattle.chat_model.specs.declared.event.Event.TheVariants.{Restart, Asked, MailTurn}
-use Rattle.notice_ledger.specs.Journal.{last_stamp}
-use Rattle.notice_ledger.specs.Refusals.{refusal}
-use Rattle.notice_ledger.specs.InOrder.{is_in_order}
-use Rattle.notice_ledger.specs.Due.{first_due}
+use Rattle.notice_ledger.specs.Past.Lawful as past
 
--- an event that may stand next, at a stamp: a request that is not refused and whose lists ascend, the mail turn of the user with the
--- least due moment once it is due, and a restart always
-abbrev pub may_stand : List Stamped → ℕ → Event → Bool
-may_stand j at Restart = true
-may_stand j at (Asked request) = is_none (refusal j request) && is_in_order request
-may_stand j at (MailTurn user) = option_map_or (λ d. d.user.0 == user.0 && nat_le d.due at) (first_due j) false
-
--- an event is lawful after a journal where it may stand next and its stamp is not below the last one
-abbrev pub is_lawful_after : List Stamped → Stamped → Bool
-is_lawful_after j s = nat_le (last_stamp j) s.at && may_stand j s.at s.event
-
--- the lawful events, from front to back: each that is lawful after those kept before it
+-- the lawful events, from front to back: each that is lawful behind those kept before it
 abbrev pub kept_from : List Stamped → List Stamped → List Stamped
 kept_from kept [] = kept
-kept_from kept (s ∷ ss) = kept_from (if is_lawful_after kept s then kept ++ s ∷ [] else kept) ss
+kept_from kept (s ∷ ss) = kept_from (if past.is_lawful_after kept s then kept ++ s ∷ [] else kept) ss
 
--- the lawful events of a journal
+-- the lawful events of a list
 unfoldable pub lawful : List Stamped → List Stamped
 lawful j = kept_from [] j
 
--- a journal of lawful events alone
+-- a list of lawful events alone
 abbrev pub IsLawful : List Stamped → Type 0
 IsLawful j = lawful j ≡ j
+
+-- an event is lawful after a list of events where it is lawful behind the lawful ones
+abbrev pub is_lawful_after : List Stamped → Stamped → Bool
+is_lawful_after j s = past.is_lawful_after (lawful j) s

@@ -1,12 +1,13 @@
+pub mod Texts
+pub mod Limits
+pub mod InOrder
+pub mod Past
+pub mod Lawful
 pub mod Journal
-pub mod Values
-pub mod Triggers
 pub mod Owed
 pub mod Due
 pub mod Outbox
 pub mod Audit
 pub mod Rows
 pub mod Refusals
-pub mod InOrder
-pub mod Lawful
 pub mod Conserved

@@ -1,66 +1,15 @@
--- The outbox: the entries that the turns make, numbered from 1 in their order.
-use Rattle.std.specs.Prelude.{ℕ, nat_le, List, [], ◌∷◌, option_map, map, if◌then◌else◌}
-use Rattle.std.specs.List.{flat_map}
+-- The outbox of any list of events.
+use Rattle.std.specs.Prelude.{ℕ, List}
 use Rattle.chat_model.specs.declared.event.Stamped.{Stamped}
-use Rattle.chat_model.specs.declared.event.Event.{Event}
-use Rattle.chat_model.specs.declared.event.Event.TheVariants.{MailTurn}
-use Rattle.chat_model.specs.declared.entry.Item.{Item}
 use Rattle.chat_model.specs.declared.entry.Entry.{Entry}
-use Rattle.chat_model.specs.declared.entry.Entry.TheVariants.{Mail}
-use Rattle.chat_model.specs.declared.entry.Conversation.{Conversation}
-use Rattle.chat_model.specs.declared.entry.Conversation.TheVariants.{Channel}
-use Rattle.chat_model.specs.declared.ids.GroupId.{GroupId}
 use Rattle.chat_model.specs.declared.ids.UserId.{UserId}
-use Rattle.chat_model.specs.declared.mentions.GroupName.{GroupName}
-use Rattle.chat_model.specs.declared.trigger.Way.TheVariants as ways
-use Rattle.notice_ledger.specs.Journal.{occurrences}
-use Rattle.notice_ledger.specs.Values.{user_name, group_name, channel_name}
-use Rattle.notice_ledger.specs.Triggers.{came_by}
-use Rattle.notice_ledger.specs.Owed.{Notice, switch_on}
-use Rattle.notice_ledger.specs.Due.{batch_rows}
+use Rattle.notice_ledger.specs.Past.Outbox as past
+use Rattle.notice_ledger.specs.Lawful.{lawful}
 
--- a group with its name
-abbrev pub named_group : List Stamped → GroupId → GroupName
-named_group j g = record { id = g; name = group_name j g }
-
--- what an entry shows of a notice, with the names and the text before the turn
-abbrev pub item : List Stamped → Notice → Item
-item j n = record {
-  message = n.number;
-  sender = n.message.sender;
-  sender_name = user_name j n.message.sender;
-  trigger = n.trigger;
-  via = option_map (named_group j) (came_by n.message n.user);
-  text = n.message.text;
-}
-
--- a conversation is a channel and a topic
-abbrev pub conversation : List Stamped → Notice → Conversation
-conversation j n = Channel n.message.channel (channel_name j n.message.channel) n.message.topic
-
--- each message is an entry of its own
-abbrev pub mail_entry : List Stamped → ℕ → Notice → Entry
-mail_entry j at n = Mail n.user (user_name j n.user) at (conversation j n) (item j n ∷ [])
-
--- a notice at its place by message
-abbrev pub put_by_message : Notice → List Notice → List Notice
-put_by_message n [] = n ∷ []
-put_by_message n (m ∷ ms) = if nat_le n.number.0 m.number.0 then n ∷ m ∷ ms else m ∷ put_by_message n ms
-
--- notices with ascending messages
-abbrev pub by_message : List Notice → List Notice
-by_message [] = []
-by_message (n ∷ ns) = put_by_message n (by_message ns)
-
--- the entries of a user's mail turn: the batch rows before it, where the mail switch is on before it
+-- the entries of a user's mail turn at a stamp, behind the lawful events
 abbrev pub mail_entries : List Stamped → ℕ → UserId → List Entry
-mail_entries j at u = if switch_on j u ways.Mail then map (mail_entry j at) (by_message (batch_rows j u)) else []
+mail_entries j at u = past.mail_entries (lawful j) at u
 
--- the entries that an event at a stamp adds
-abbrev pub entries_by : List Stamped → ℕ → Event → List Entry
-entries_by past at (MailTurn u) = mail_entries past at u
-entries_by past at _ = []
-
--- the entries that the events add, in their order
-unfoldable pub outbox : List Stamped → List Entry
-outbox j = flat_map (λ o. entries_by o.past o.at o.event) (occurrences j)
+-- the entries that the lawful events add, in their order
+abbrev pub outbox : List Stamped → List Entry
+outbox j = past.outbox (lawful j)

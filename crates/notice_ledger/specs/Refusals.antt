@@ -1,103 +1,31 @@
--- Which rule of a request is broken.
-use Rattle.std.specs.Prelude.{ℕ, Bool, ◌||◌, ◌==◌, not, nat_lt, List, [], ◌∷◌, length, chars, slice_index, ◌-◌, Option, Some, None, if◌then◌else◌}
-use Rattle.std.specs.Char.{is_whitespace, is_control}
-use Rattle.std.specs.List.{list_all, list_any}
-use Rattle.std.specs.Str.{byte, str_eq_ignore_ascii_case}
+-- Which rule of a request is broken after any list of events.
+use Rattle.std.specs.Prelude.{◌≡◌, ◌≤◌, true, false, IsTrue, List, Option, Some, None, All, Any}
 use Rattle.chat_model.specs.declared.event.Stamped.{Stamped}
 use Rattle.chat_model.specs.declared.request.Request.{Request}
-use Rattle.chat_model.specs.declared.request.Request.TheVariants.{AddUser, AddGroup, Member, AddChannel, Subscribe, Send}
 use Rattle.chat_model.specs.declared.request.Refusal.{Refusal}
-use Rattle.chat_model.specs.declared.request.Refusal.TheVariants.{NoUser, NoChannel, NoGroup, Exists, NotSubscribed, EmptyText, TextTooLong, TopicTooLong, TooMany, NameTooLong, BadName}
-use Rattle.notice_ledger.specs.Values.{is_user, is_group, groups, is_channel, channels, subscribed, subscriber_count}
+use Rattle.chat_model.specs.Refusals.{refusal_number}
+use Rattle.chat_model.specs.Ascending.{is_ascending_by}
+use Rattle.notice_ledger.specs.Past.Refusals.{Rule}
+use Rattle.notice_ledger.specs.Past.Refusals as past
+use Rattle.notice_ledger.specs.Lawful.{lawful}
 
--- ---- texts and names
+-- the refusal of a request after the lawful events: the first, by number, whose rule is broken
+abbrev pub refusal : List Stamped → Request → Option Refusal
+refusal j request = past.refusal (lawful j) request
 
--- the text has more than so many characters
-unfoldable pub is_longer_than : ℕ → List ℕ → Bool
-is_longer_than most text = nat_lt most (length (chars text))
+-- ---- laws
 
--- the text has only whitespace
-unfoldable pub is_blank : List ℕ → Bool
-is_blank text = list_all is_whitespace (chars text)
+-- the rules of a request stand in the order of their refusals' numbers
+abbrev pub RulesAscend : Type 0
+RulesAscend = (j : List Stamped) (request : Request) → IsTrue (is_ascending_by (λ r. refusal_number r.refusal) (past.rules_of (lawful j) request))
 
--- a character that no name has: a control character or one of * | @ \ > " and a backquote
-abbrev pub is_forbidden : ℕ → Bool
-is_forbidden c =
-    is_control c || c == byte "*" || c == byte "|" || c == byte "@" || c == byte "\\" || c == byte ">" || c == byte "\"" || c == byte "`"
+-- none of the rules is broken; or the refusal is that of a broken one, and no broken one has a refusal of a lesser number
+abbrev pub IsLeastBroken : List Rule → Option Refusal → Type 0
+IsLeastBroken rules None = All (λ r. r.broken ≡ false) rules
+IsLeastBroken rules (Some refusal) =
+    Any (λ r. (r.broken ≡ true) × (r.refusal ≡ refusal)) rules
+    × All (λ r. r.broken ≡ true → refusal_number refusal ≤ refusal_number r.refusal) rules
 
--- the name begins or ends with a space
-abbrev pub has_outer_space : List ℕ → Bool
-has_outer_space name = slice_index name 0 == byte " " || slice_index name (length name - 1) == byte " "
-
--- the name is empty, begins or ends with a space, or has a character that no name has
-unfoldable pub is_bad_name : List ℕ → Bool
-is_bad_name name = length name == 0 || has_outer_space name || list_any is_forbidden (chars name)
-
--- one of the names is this one without ASCII case
-unfoldable pub is_taken : List (List ℕ) → List ℕ → Bool
-is_taken names name = list_any (str_eq_ignore_ascii_case name) names
-
--- ---- rules
-
--- how many characters a text, a topic and a name may have, and how many items a list, or subscribers the channel of a send
-abbrev pub longest_text : ℕ
-longest_text = 10000
-
-abbrev pub longest_topic : ℕ
-longest_topic = 60
-
-abbrev pub longest_name : ℕ
-longest_name = 100
-
-abbrev pub most_items : ℕ
-most_items = 10000
-
--- the refusal that a rule gives where it is broken
-pub record Rule : Type 0 where
-  pub broken : Bool
-  pub refusal : Refusal
-
-abbrev pub rule : Bool → Refusal → Rule
-rule broken refusal = record { broken = broken; refusal = refusal }
-
--- the first of these rules that is broken
-abbrev pub first_broken : List Rule → Option Refusal
-first_broken [] = None
-first_broken (r ∷ rules) = if r.broken then Some r.refusal else first_broken rules
-
--- the rules on the name of what a request makes
-abbrev pub name_rules : List ℕ → List Rule
-name_rules name = rule (is_longer_than longest_name name) NameTooLong ∷ rule (is_bad_name name) BadName ∷ []
-
--- the rules that concern a request after a journal, in the order of the refusals' numbers
-abbrev pub rules_of : List Stamped → Request → List Rule
-rules_of j (AddUser name bot) = name_rules name
-rules_of j (AddGroup name members) =
-    rule (not (list_all (is_user j) members)) NoUser
-    ∷ rule (is_taken (groups j) name) Exists
-    ∷ rule (nat_lt most_items (length members)) (TooMany most_items)
-    ∷ name_rules name
-rules_of j (Member group user on) =
-    rule (not (is_user j user)) NoUser
-    ∷ rule (not (is_group j group)) NoGroup
-    ∷ []
-rules_of j (AddChannel name) =
-    rule (is_taken (channels j) name) Exists
-    ∷ name_rules name
-rules_of j (Subscribe user channel on) =
-    rule (not (is_user j user)) NoUser
-    ∷ rule (not (is_channel j channel)) NoChannel
-    ∷ []
-rules_of j (Send sender channel topic text) =
-    rule (not (is_user j sender)) NoUser
-    ∷ rule (not (is_channel j channel)) NoChannel
-    ∷ rule (not (subscribed j sender channel)) NotSubscribed
-    ∷ rule (is_blank text) EmptyText
-    ∷ rule (is_longer_than longest_text text) TextTooLong
-    ∷ rule (is_longer_than longest_topic topic) TopicTooLong
-    ∷ rule (nat_lt most_items (subscriber_count j channel)) (TooMany most_items)
-    ∷ []
-
--- the refusal of a request after a journal: the first, by number, whose rule is broken
-unfoldable pub refusal : List Stamped → Request → Option Refusal
-refusal j request = first_broken (rules_of j request)
+-- a request is refused by the broken rule of the least number
+abbrev pub RefusalIsLeast : Type 0
+RefusalIsLeast = (j : List Stamped) (request : Request) → IsLeastBroken (past.rules_of (lawful j) request) (refusal j request)

@@ -1,58 +1,26 @@
--- The rows of the kept tables.
-use Rattle.std.specs.Prelude.{ℕ, ◌+◌, false, List, [], ◌∷◌, ◌++◌, Option, Some, None, option_map, map}
-use Rattle.std.specs.List.{filter_map}
+-- The rows of any list of events.
+use Rattle.std.specs.Prelude.{List}
+use Rattle.std.specs.List.Sorted.{IsPermutation}
 use Rattle.chat_model.specs.declared.event.Stamped.{Stamped}
-use Rattle.chat_model.specs.declared.entry.Entry.{Entry}
 use Rattle.chat_model.specs.declared.row.Row.{Row}
-use Rattle.chat_model.specs.declared.row.Row.TheVariants as row
-use Rattle.chat_model.specs.declared.row.RowChange.TheVariants.{Put}
-use Rattle.chat_model.specs.declared.row.Stage.{Stage}
-use Rattle.chat_model.specs.declared.row.Stage.TheVariants as stage
-use Rattle.chat_model.specs.Rows.{changed_all}
-use Rattle.notice_ledger.specs.declared.account.Account.{Account}
-use Rattle.notice_ledger.specs.declared.account.Account.TheVariants.{Flight, Held, Ready}
-use Rattle.notice_ledger.specs.Values.{Person, people, SentMessage, messages, settings}
-use Rattle.notice_ledger.specs.Owed.{Notice, notices, account_of}
-use Rattle.notice_ledger.specs.Outbox.{outbox}
+use Rattle.chat_model.specs.Rows.{IsAscending}
+use Rattle.notice_ledger.specs.Past.Rows as past
+use Rattle.notice_ledger.specs.Lawful.{lawful}
 
--- a row for each user, with its settings at the end
-abbrev pub user_rows_from : List Stamped → ℕ → List Person → List Row
-user_rows_from j n [] = []
-user_rows_from j n (p ∷ ps) = row.User (record { 0 = n }) p.name p.bot (settings j (record { 0 = n })) ∷ user_rows_from j (n + 1) ps
+-- what has a row after the lawful events, table by table
+abbrev pub listed_rows : List Stamped → List Row
+listed_rows j = past.listed_rows (lawful j)
 
--- a row for each message
-abbrev pub message_rows_from : ℕ → List SentMessage → List Row
-message_rows_from n [] = []
-message_rows_from n (m ∷ ms) = row.Message (record { 0 = n }) m.sender m.text false ∷ message_rows_from (n + 1) ms
+-- the rows of the kept tables after the lawful events, by table and key
+abbrev pub rows : List Stamped → List Row
+rows j = past.rows (lawful j)
 
--- how far a pending notice has come
-abbrev pub stage_of : Account → Option Stage
-stage_of Flight = Some stage.Flight
-stage_of Held = Some stage.Held
-stage_of Ready = Some stage.Ready
-stage_of _ = None
+-- ---- laws
 
--- a row for a notice with a pending account, with its trigger, deal and stage
-abbrev pub pending_row : List Stamped → Notice → Option Row
-pending_row j n = option_map (λ s. row.Pending n.user n.number n.way n.trigger n.deal s) (stage_of (account_of j n))
+-- the rows ascend strictly by table and key, so that no key stands twice
+abbrev pub RowsAscend : Type 0
+RowsAscend = (j : List Stamped) → IsAscending (rows j)
 
--- the row of a notice that waits for its turn
-abbrev pub waiting_row : Notice → Row
-waiting_row n = row.Pending n.user n.number n.way n.trigger n.deal stage.Ready
-
--- a row for each outbox entry, which nothing spools yet
-abbrev pub outbox_rows_from : ℕ → List Entry → List Row
-outbox_rows_from n [] = []
-outbox_rows_from n (e ∷ es) = row.Outbox (record { 0 = n }) e false ∷ outbox_rows_from (n + 1) es
-
--- what has a row
-abbrev pub unordered_rows : List Stamped → List Row
-unordered_rows j = user_rows_from j 1 (people j) ++ (message_rows_from 1 (messages j) ++ (filter_map (pending_row j) (notices j) ++ outbox_rows_from 1 (outbox j)))
-
--- each row at its place, by table and key
-abbrev pub in_key_order : List Row → List Row
-in_key_order rs = changed_all (map Put rs) []
-
--- the rows of the kept tables, by table and key
-unfoldable pub rows : List Stamped → List Row
-rows j = in_key_order (unordered_rows j)
+-- they are exactly what has a row, each once
+abbrev pub RowsAreListed : Type 0
+RowsAreListed = (j : List Stamped) → IsPermutation (listed_rows j) (rows j)

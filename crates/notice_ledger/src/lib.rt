@@ -5,12 +5,14 @@
 //! function of the journal alone, and knows no table and no index.
 #![tactic(auto)]
 
-mod account;
+mod accounts;
+mod laws;
 mod order;
 mod rules;
 #[cfg(test)]
 mod tests;
 
-pub use account::Account;
+pub use accounts::Account;
+pub use laws::{refusal_is_least, rows_are_listed, rows_ascend, rules_ascend};
 pub use order::in_order;
 pub use rules::{is_bad_name, is_blank, is_longer_than};

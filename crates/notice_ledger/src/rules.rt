@@ -1,7 +1,7 @@
 //! The rules that look at a text alone.
 ghost use Rattle.std.specs.Prelude.{◌≡◌, chars};
 ghost use Rattle.std.specs.List.{list_any};
-ghost use Rattle.notice_ledger.specs.Refusals.{has_outer_space, is_bad_name, is_blank, is_forbidden, is_longer_than};
+ghost use Rattle.notice_ledger.specs.Texts.{has_outer_space, is_bad_name, is_blank, is_forbidden, is_longer_than};
 
 /// Whether the text has more than so many characters, which are Unicode scalar values and not bytes: the cause of
 /// `TextTooLong`, `TopicTooLong` and `NameTooLong`.
@@ -20,7 +20,7 @@ pub fn is_blank(text: &str) -> bool
 
 /// Whether the name is empty, begins or ends with a space, or holds a control character or one of `*`, `|`, `@`,
 /// `\`, `>`, `"` and a backquote: the cause of `BadName`.
-#[tactic(auto, unfolding(crate::specs::Refusals::is_bad_name))]
+#[tactic(auto, unfolding(crate::specs::Texts::is_bad_name))]
 pub fn is_bad_name(name: &str) -> bool
     ensures { result ≡ is_bad_name name.now }
 {

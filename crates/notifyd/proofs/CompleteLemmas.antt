@@ -1,51 +1,24 @@
 -- A run over a script that can be read, at which nothing fails.
-use Rattle.std.proofs.Common.{◌≡◌, ℕ, ◌+◌, ◌-◌, ◌<◌, ◌≤◌, Bool, true, false, eqb, List, [], ◌∷◌, ◌++◌, length, take, drop, zero, suc, Option, Some, None, Result, refl, sym, ap, ◌∙◌, subst, take-append-drop, arith, inl, inr, ◌⊎◌}
-use Rattle.std.specs.Prelude.{◌==◌, ◌||◌, slice_get, IfSome, IsSome, IsOk, IsTrue}
+use Rattle.std.proofs.Common.{◌≡◌, ℕ, ◌+◌, ◌-◌, ◌<◌, ◌≤◌, Bool, true, false, cond, List, [], ◌∷◌, ◌++◌, length, take, drop, zero, suc, Option, Some, None, Result, refl, sym, ap, ◌∙◌, subst, append_assoc, length-append, take-append-drop, arith, inl, inr, ◌⊎◌, ◌||◌}
+use Rattle.std.specs.Prelude.{slice_get, IfSome, IsSome, IsOk, count_by, option_map}
 use Rattle.std.specs.List.{AllByRecursion, list_any}
 use Rattle.std.proofs.lemmas.List.{append-nil}
-use Rattle.std.proofs.lemmas.Bool.{eqb-true}
+use Rattle.std.proofs.lemmas.List.Sums.{sum_by-append}
 use Rattle.chat_model.specs.Counts.{HasRisen}
 use Rattle.keeper.specs.declared.keeper.Kept.{Kept}
+use Rattle.office.specs.declared.answer.StartFault.TheVariants as start
+use Rattle.notifyd.specs.declared.reply.Reply.{Reply}
 use Rattle.notifyd.specs.declared.line.Line.{Line}
+use Rattle.notifyd.specs.declared.ending.Ending.{Ending}
+use Rattle.notifyd.specs.declared.ending.Ending.TheVariants.{InputEnded, BadLine, SourceFault, TooLong, SinkFault, NotStarted}
+use Rattle.notifyd.specs.declared.ending.Met.{Met}
 use Rattle.notifyd.specs.Grammar.{reading}
-use Rattle.notifyd.specs.Cut.{Cut, IsBadLine, IsWholeLine, GaveBytes, GaveMore, uncut, cut_of, cut_on, all_lines, last_line}
-use Rattle.notifyd.specs.Status.{IsAmong, statuses, KeptIsEmpty}
-use Rattle.notifyd.specs.Run.{Told, PlayedToBadLine, PlayedAs, Faults, GoesWell}
-use Rattle.notifyd.proofs.CutLemmas.{cut_on-append, lines-on, IsBadLine-front}
-use Rattle.notifyd.proofs.GaveLemmas.{told}
-
--- an item that stands in the front of a list
-slice_get-of_front : {A : Type 0} (xs ys : List A) (k : ℕ) (x : A) → k < length xs → slice_get (xs ++ ys) k ≡ Some x → slice_get xs k ≡ Some x
-slice_get-of_front [] ys k x h e = absurd (omega (arith, h))
-slice_get-of_front (y ∷ xs) ys zero x h e = e
-slice_get-of_front (y ∷ xs) ys (suc k) x h e = slice_get-of_front xs ys k x (omega (arith, h)) e
-
-IsBadLine-of_front : (lines more : List (List ℕ)) (number column : ℕ) → number ≤ length lines → IsBadLine (lines ++ more) number column → IsBadLine lines number column
-IsBadLine-of_front lines more number column h b = record {
-  line = b.line;
-  there = slice_get-of_front lines more (number - 1) b.line (omega (arith, h, b.counted)) b.there;
-  counted = b.counted;
-  bad = b.bad;
-}
-
--- a complete bad line of the bytes so far is one of all bytes
-IsBadLine-complete : (bytes : List ℕ) (count number column : ℕ) → IsBadLine (cut_of (take count bytes)).lines number column → IsBadLine (all_lines (cut_of bytes)) number column
-IsBadLine-complete bytes count number column b =
-    let cut = cut_of (take count bytes) in
-    let w = lines-on cut (drop count bytes) in
-    let P : List (List ℕ) → Type 0 = λ lines. IsBadLine lines number column in
-    let on = subst P (sym w.1) (IsBadLine-front cut.lines w.0 number column b) in
-    let Q : Cut → Type 0 = λ at. IsBadLine (all_lines at) number column in
-    subst Q (sym (cut_on-append uncut (take count bytes) (drop count bytes)) ∙ ap cut_of (take-append-drop count bytes)) (IsBadLine-front _ (last_line (cut_on cut (drop count bytes)).rest) number column on)
-
--- a bad line is one of the whole script
-IsBadLine-whole : (bytes : List ℕ) (left : Option (List ℕ)) (count number column : ℕ) → GaveBytes count (Some bytes) left → IsWholeLine (cut_of (take count bytes)) number left → IsBadLine (all_lines (cut_of (take count bytes))) number column → IsBadLine (all_lines (cut_of bytes)) number column
-IsBadLine-whole bytes left count number column gave (inl h) b = IsBadLine-complete bytes count number column (IsBadLine-of_front _ (last_line (cut_of (take count bytes)).rest) number column h b)
-IsBadLine-whole bytes left count number column gave (inr h) b =
-    let none = told left (drop count bytes) (λ rest. rest ≡ []) gave.left h in
-    let all : take count bytes ≡ bytes = sym (append-nil (take count bytes)) ∙ ap (λ rest. take count bytes ++ rest) (sym none) ∙ take-append-drop count bytes in
-    let P : List ℕ → Type 0 = λ it. IsBadLine (all_lines (cut_of it)) number column in
-    subst P all b
+use Rattle.notifyd.specs.Cut.{IsBadLine, cut_of, all_lines, last_line, allowed, max_script}
+use Rattle.notifyd.specs.Play.{HaveRisen, is_keeper_fault}
+use Rattle.notifyd.specs.Ending.{last_text, status_met, status_of}
+use Rattle.notifyd.specs.Status.{status_number, KeptIsEmpty}
+use Rattle.notifyd.specs.Run.{Devices, Gave, IsAtEnd, IsWithin, IsCourse, PlayedAs, WentAs, RanAs, GoesWell}
+use Rattle.notifyd.proofs.CutLemmas.{allowed-within, IsBadLine-of_front, IsBadLine-complete}
 
 -- one of the lines, each of which can be read
 readable-at : (lines : List (List ℕ)) (k : ℕ) (line : List ℕ) → AllByRecursion (λ it. IsOk (reading it)) lines → slice_get lines k ≡ Some line → IsOk (reading line)
@@ -67,48 +40,78 @@ not_kept (Some kept) tells empty h =
     let rows = ap length empty.1 in
     omega (arith, h, journal, rows)
 
--- one of the numbers is the first, or it is one of the others
-IsAmong-first : (first : ℕ) (others : List ℕ) (status : ℕ) → IsAmong (first ∷ others) status → (status ≡ first) ⊎ IsAmong others status
-IsAmong-first first others status h = by (eqb first status) refl h
-  where
-    by : (t : Bool) → eqb first status ≡ t → IsTrue (t || list_any (λ number. number == status) others) → (status ≡ first) ⊎ IsAmong others status
-    by true e h = inl (sym (eqb-true first status e))
-    by false e h = inr h
+-- what a source that tells has left
+record Left (script taken : List ℕ) (now : Option (List ℕ)) : Type 0 where
+  pub rest : List ℕ
+  pub tells : now ≡ Some rest
+  pub all : script ≡ taken ++ rest
 
--- the first of the numbers is not meant
-others : (first : ℕ) (numbers : List ℕ) (status : ℕ) → (status ≡ first → ⊥) → IsAmong (first ∷ numbers) status → IsAmong numbers status
-others first numbers status not_first h = elim (IsAmong-first first numbers status h) [ inl is ↦ absurd (not_first is) | inr more ↦ more ]
+left_of : (script taken : List ℕ) (before now : Option (List ℕ)) → Gave taken before now → before ≡ Some script → Left script taken now
+left_of script taken before None gave tells = absurd (let wrong : Some script ≡ None = sym tells ∙ gave in cc)
+left_of script taken before (Some rest) gave tells =
+    let same : Some script ≡ Some (taken ++ rest) = sym tells ∙ gave in
+    record { rest = rest; tells = refl; all = cc }
 
--- the statuses that no cause excludes
-statuses_left : (status : ℕ) → IsAmong statuses status → (status ≡ 1 → ⊥) → (status ≡ 2 → ⊥) → (status ≡ 3 → ⊥) → (status ≡ 4 → ⊥) → (status ≡ 5 → ⊥) → (status ≡ 8 → ⊥) → (status ≡ 9 → ⊥) → (status ≡ 0) ⊎ (status ≡ 7)
-statuses_left status among no_command bad source sink keeper not_empty long =
-    elim (IsAmong-first 0 (1 ∷ 2 ∷ 3 ∷ 4 ∷ 5 ∷ 7 ∷ 8 ∷ 9 ∷ []) status among) [
-      | inl is ↦ inl is
-      | inr more ↦ (
-          let a = others 1 (2 ∷ 3 ∷ 4 ∷ 5 ∷ 7 ∷ 8 ∷ 9 ∷ []) status no_command more in
-          let b = others 2 (3 ∷ 4 ∷ 5 ∷ 7 ∷ 8 ∷ 9 ∷ []) status bad a in
-          let c = others 3 (4 ∷ 5 ∷ 7 ∷ 8 ∷ 9 ∷ []) status source b in
-          let d = others 4 (5 ∷ 7 ∷ 8 ∷ 9 ∷ []) status sink c in
-          let e = others 5 (7 ∷ 8 ∷ 9 ∷ []) status keeper d in
-          elim (IsAmong-first 7 (8 ∷ 9 ∷ []) status e) [
-            | inl is ↦ inr is
-            | inr rest ↦ (let f = others 8 (9 ∷ []) status not_empty rest in absurd (cc (others 9 [] status long f)))
-          ])
+-- a script has no more bytes than were taken of it
+taken_within : (script taken : List ℕ) (now : Option (List ℕ)) → length script ≤ max_script → Left script taken now → length taken ≤ max_script
+taken_within script taken now within p = omega (arith, within, ap length p.all, length-append taken p.rest)
+
+-- a bad line of what was taken is one of the script
+bad_of_script : (script taken : List ℕ) (now : Option (List ℕ)) (number column : ℕ) → Left script taken now → IsBadLine (all_lines (cut_of (allowed taken))) number column → (number ≤ length (cut_of (allowed taken)).lines) ⊎ (IsWithin taken × IsAtEnd now) → IsBadLine (all_lines (cut_of script)) number column
+bad_of_script script taken now number column p bad whole =
+    let P : List ℕ → Type 0 = λ bytes. IsBadLine (all_lines (cut_of bytes)) number column in
+    let Q : Option (List ℕ) → Type 0 = λ it. IsAtEnd it in
+    elim whole [
+      | inl h ↦ (
+          let front = IsBadLine-of_front (cut_of (allowed taken)).lines (last_line (cut_of (allowed taken)).rest) number column h bad in
+          let more = drop max_script taken ++ p.rest in
+          let all : allowed taken ++ more ≡ script = sym (append_assoc (allowed taken) (drop max_script taken) p.rest) ∙ ap (λ bytes. bytes ++ p.rest) (take-append-drop max_script taken) ∙ sym p.all in
+          subst P all (IsBadLine-complete (allowed taken) more number column front))
+      | inr h ↦ (
+          let none : p.rest ≡ [] = subst Q p.tells h.1 in
+          let all : allowed taken ≡ script = allowed-within taken h.0 ∙ sym (append-nil taken) ∙ ap (λ rest. taken ++ rest) (sym none) ∙ sym p.all in
+          subst P all bad)
     ]
 
--- more bytes than a script has
-not_long : (source left : Option (List ℕ)) (script : List ℕ) (most : ℕ) → source ≡ Some script → length script ≤ most → GaveMore most source left → ⊥
-not_long source left script most tells within p =
-    let h : p.count ≤ length script = told source script (λ bytes. p.count ≤ length bytes) tells p.gave.within in
-    omega (arith, h, within, p.more)
+-- a keeper's fault among the replies is counted
+some_fault : (replies : List (Option Reply)) → list_any is_keeper_fault replies ≡ true → 1 ≤ count_by is_keeper_fault replies
+some_fault [] h = absurd (cc)
+some_fault (reply ∷ replies) h =
+    let P : ℕ → Type 0 = λ n. 1 ≤ n in
+    subst P (sym (sum_by-append (λ (r : Option Reply). cond (is_keeper_fault r) 1 0) (reply ∷ []) replies)) (by (is_keeper_fault reply) (some_fault replies) h)
+  where
+    by : (t : Bool) → (list_any is_keeper_fault replies ≡ true → 1 ≤ count_by is_keeper_fault replies) → (t || list_any is_keeper_fault replies) ≡ true → 1 ≤ (0 + cond t 1 0) + count_by is_keeper_fault replies
+    by true more e = omega arith
+    by false more e = let some = more e in omega (arith, some)
+
+no_fault : (replies : List (Option Reply)) (fault : Bool) (before now : ℕ) → fault ≡ list_any is_keeper_fault replies → HaveRisen (count_by is_keeper_fault replies) before now → ¬ HasRisen before now → fault ≡ false
+no_fault replies fault before now is risen none = by fault refl
+  where
+    by : (t : Bool) → fault ≡ t → t ≡ false
+    by false e = refl
+    by true e = let some = some_fault replies (sym is ∙ e) in absurd (none (omega (arith, some, risen)))
+
+met_well : (keeper_fault out_of_memory : Bool) (status : ℕ) → keeper_fault ≡ false → status ≡ status_number (status_met keeper_fault out_of_memory) → (status ≡ 0) ⊎ (status ≡ 7)
+met_well true out_of_memory status none exit = absurd (cc)
+met_well false true status none exit = inr exit
+met_well false false status none exit = inl exit
 
 -- where all goes well, the script is played to its end
-pub complete : (most : ℕ) (source left : Option (List ℕ)) (kept : Option Kept) (before now : Faults) (at_first at_last : Told) (status : ℕ) → IsAmong statuses status → (status ≡ 1 → ⊥) → IfSome source (λ bytes. PlayedAs bytes at_first left status at_last) → (status ≡ 3 → HasRisen before.source now.source) → (status ≡ 4 → HasRisen before.sink now.sink) → (status ≡ 5 → HasRisen before.keeper now.keeper) → (status ≡ 8 → IfSome kept (λ it. 0 < length it.journal + length it.rows)) → (status ≡ 9 → GaveMore most source left) → GoesWell most source kept before now → (status ≡ 0) ⊎ (status ≡ 7)
-complete most source left kept before now at_first at_last status among no_command played source_fault sink_fault keeper_fault not_empty long w =
-    statuses_left status among no_command
-    (λ is. let p : PlayedToBadLine w.script at_first left at_last = let all : PlayedAs w.script at_first left status at_last = told source w.script (λ bytes. PlayedAs bytes at_first left status at_last) w.tells played in all.bad_line is in none_bad _ p.number p.column w.readable.lines (IsBadLine-whole w.script left p.count p.number p.column p.gave p.whole p.bad))
-    (λ is. w.none_failed.source (source_fault is))
-    (λ is. w.none_failed.sink (sink_fault is))
-    (λ is. w.none_failed.keeper (keeper_fault is))
-    (λ is. not_kept kept w.keeper_tells w.empty (not_empty is))
-    (λ is. not_long source left w.script most w.tells w.readable.within (long is))
+pub complete : (before now : Devices) (status number : ℕ) → status ≡ number → RanAs before number now → GoesWell before now → (status ≡ 0) ⊎ (status ≡ 7)
+complete before now status number is ran well = by ran.ending ran.met ran.went (is ∙ ran.exit)
+  where
+    by : (ending : Ending) (met : Met) → WentAs ending (last_text ending) met before now → status ≡ status_number (status_of ending met) → (status ≡ 0) ⊎ (status ≡ 7)
+    by InputEnded met p exit = met_well met.keeper_fault met.out_of_memory status (no_fault p.replies met.keeper_fault before.keeper_faults now.keeper_faults p.course.keeper_fault p.course.risen well.none_failed.keeper) exit
+    by (BadLine number column) met p exit =
+        let left = left_of well.script p.taken before.input now.input p.course.gave well.tells in
+        absurd (none_bad (all_lines (cut_of well.script)) number column well.readable.lines (bad_of_script well.script p.taken now.input number column left p.ends.0 p.ends.2))
+    by SourceFault met p exit = absurd (well.none_failed.source p.ends.2)
+    by TooLong met p exit =
+        let left = left_of well.script p.taken before.input now.input p.course.gave well.tells in
+        let within = taken_within well.script p.taken now.input well.readable.within left in
+        let more = p.ends.0 in
+        absurd (omega (arith, within, more))
+    by SinkFault met p exit = absurd (well.none_failed.sink p.cause)
+    by (NotStarted start.KeeperFault) met p exit = absurd (well.none_failed.keeper (p.unstarted.cause refl))
+    by (NotStarted start.OutOfMemory) met p exit = inr exit
+    by (NotStarted start.NotEmpty) met p exit = absurd (not_kept before.kept well.keeper_tells well.empty (p.unstarted.not_empty refl))

@@ -1,8 +1,12 @@
--- A line without what ends it.
-use Rattle.std.proofs.Common.{◌≡◌, ℕ, ◌-◌, ◌<◌, ◌≤◌, Bool, true, false, cond, eqb, ltb, List, length, take, get_or, refl, arith, length-take, IsUtf8}
+-- A line without what ends it, and the fault of a line.
+use Rattle.std.proofs.Common.{◌≡◌, ℕ, ◌-◌, ◌<◌, ◌≤◌, Bool, true, false, cond, eqb, ltb, List, length, take, get_or, refl, arith, length-take, IsUtf8, Result, Ok, Err}
 use Rattle.std.specs.Str.Lossy.{utf8_valid_len}
 use Rattle.std.proofs.lemmas.Bool.Decides.{nat_tests}
 use Rattle.std.proofs.lemmas.Str.{IsUtf8-take, utf8_valid_len-IsUtf8}
+use Rattle.notifyd.specs.declared.line.Line.{Line}
+use Rattle.notifyd.specs.declared.line.LineFault.{LineFault}
+use Rattle.notifyd.specs.declared.line.LineFault.TheVariants.{BadLine, OutOfMemory}
+use Rattle.notifyd.specs.Fault.{MatchesFault, IsFaultOf}
 use Rattle.notifyd.specs.Grammar.{reading, content_reading, body_of, content_of, ends_in, without_last, max_line}
 use Rattle.notifyd.proofs.FieldLemmas.{both}
 
@@ -48,3 +52,9 @@ reading-content bytes short u =
     let whole = utf8_valid_len-IsUtf8 (body_of bytes) u in
     let valid : ltb (utf8_valid_len (body_of bytes)) (length (body_of bytes)) ≡ false = grind (arith, nat_tests) in
     rw (fits, valid) refl
+
+-- memory is wanted for a request that is there
+pub MatchesFault-from_test : (reading : Result Line ℕ) (fault : LineFault) → IsFaultOf reading fault → MatchesFault reading fault
+MatchesFault-from_test reading (BadLine column) bad = bad
+MatchesFault-from_test (Ok line) OutOfMemory request = (line, refl, request)
+MatchesFault-from_test (Err column) OutOfMemory request = absurd (cc)

@@ -14,7 +14,8 @@ use Rattle.office.specs.declared.answer.AskFault.TheVariants.{Refused}
 use Rattle.office.specs.Office.{answer_of}
 use Rattle.notifyd.specs.declared.line.Line.TheVariants as line
 use Rattle.notifyd.specs.declared.reply.Reply.TheVariants as reply
-use Rattle.notifyd.specs.Play.{world, IsStep}
+use Rattle.notifyd.specs.World.{world}
+use Rattle.notifyd.specs.Play.{IsStep}
 
 -- no rule is broken where no answer is a refusal
 pub unrefused : (broken : Option Refusal) (answer : Result Answer AskFault) → ((n : Refusal) → (answer ≡ Err (Refused n)) ↔ (broken ≡ Some n)) → ((n : Refusal) → answer ≡ Err (Refused n) → ⊥) → broken ≡ None

@@ -1,160 +1,332 @@
--- A run, from what its play answered.
-use Rattle.std.proofs.Common.{◌≡◌, ◌≢◌, sym, ℕ, ◌-◌, ◌≤◌, Bool, false, List, [], ◌++◌, take, Option, Some, None, refl, ap, ◌∙◌, subst, append_assoc, arith, ◌||◌, inl, inr, ◌⊎◌}
-use Rattle.std.specs.Prelude.{IfSome, option_map}
+-- A run, from how its play ended.
+use Rattle.std.proofs.Common.{◌≡◌, ℕ, ◌+◌, ◌-◌, ◌<◌, ◌≤◌, Bool, true, false, List, [], ◌∷◌, ◌++◌, length, take, Option, Some, None, Err, refl, sym, ap, ◌∙◌, subst, append_assoc, length-append, arith, ◌||◌, inl, inr, ◌⊎◌, is_some, zero, suc}
+use Rattle.std.specs.Prelude.{IfSome, option_map, slice_get}
 use Rattle.std.specs.List.{list_any, flat_map}
+use Rattle.std.proofs.Math.Seq.{take-append_seam}
+use Rattle.std.proofs.lemmas.List.{append-nil}
 use Rattle.chat_model.specs.Counts.{HasRisen}
+use Rattle.keeper.specs.declared.keeper.Kept.{Kept}
 use Rattle.office.specs.Office.{KeptStandsFor}
-use Rattle.notifyd.specs.declared.reply.Reply.TheVariants.{KeeperFault, OutOfMemory}
-use Rattle.notifyd.specs.declared.last_line.LastLine.{LastLine}
-use Rattle.notifyd.specs.declared.last_line.LastLine.TheVariants.{BadLine, SourceFault}
-use Rattle.notifyd.specs.Reply.{reply_text}
-use Rattle.notifyd.specs.LastLine.{last_line_text}
-use Rattle.notifyd.specs.Cut.{uncut, cut_of, all_lines}
-use Rattle.notifyd.specs.Play.{World, Standing, PlaysLines, AnswersLines, answer_text, is_keeper_fault}
-use Rattle.notifyd.specs.Answered.{GaveBadLine, GaveLines}
-use Rattle.notifyd.specs.Status.{status_met}
-use Rattle.notifyd.specs.Run.{Told, started, Wrote, IsPlayOf, PlayedToEnd, PlayedToBadLine, PlayedComplete, PlayedToFault, StartFailed, PlayedAs}
-use Rattle.notifyd.proofs.AnswerLemmas.{AnswersRest-all}
+use Rattle.office.specs.declared.answer.StartFault.{StartFault}
+use Rattle.notice_ledger.specs.Rows.{rows}
+use Rattle.notifyd.specs.declared.reply.Reply.{Reply}
+use Rattle.notifyd.specs.declared.ending.Ending.{Ending}
+use Rattle.notifyd.specs.declared.ending.Ending.TheVariants.{InputEnded, BadLine, SourceFault, TooLong, SinkFault, NotStarted}
+use Rattle.notifyd.specs.declared.ending.Ended.{Ended}
+use Rattle.notifyd.specs.declared.ending.Met.{Met}
+use Rattle.notifyd.specs.Cut.{IsBadLine, begun, cut_on, cut_of, all_lines, last_line, allowed, max_script}
+use Rattle.notifyd.specs.World.{World, started}
+use Rattle.notifyd.specs.Play.{PlaysLines, HaveRisen, answer_text, is_keeper_fault, is_out_of_memory}
+use Rattle.notifyd.specs.Ending.{last_text}
+use Rattle.notifyd.specs.Status.{KeptIsEmpty, KeptIsConsistent, KeptIsConserved}
+use Rattle.notifyd.specs.Run.{Devices, devices, Gave, IsAtEnd, Wrote, AreFirst, IsCourse, IsWithin, EndsAs, PlayedAs, IsUnstarted, EndedUnstarted, PlayedUnwritten, UnstartedUnwritten, SinkFailed, WentAs}
+use Rattle.notifyd.specs.Playing.{Playing}
+use Rattle.notifyd.specs.Going.{Standing, standing, left_standing, Plays, Answers, FailsToAnswer, ComesToBadLine, EndsAmong, EndsReading, EndedReading, source_seen}
+use Rattle.notifyd.proofs.CutLemmas.{allowed-within, AreFirst-complete, AreFirst-all}
+use Rattle.notifyd.proofs.GoingLemmas.{Wrote-none, Wrote-then, EndsAmong-more}
 use Rattle.notifyd.proofs.ShownLemmas.{plays-shown, marks-read}
 
 -- a play stands where a start leaves it
-pub record IsFresh (before : Told) (a : Standing) : Type 0 where
+record IsFresh (before : Devices) (a : Standing) : Type 0 where
   pub world : a.world ≡ started
   pub keeper_fault : a.met.keeper_fault ≡ false
   pub out_of_memory : a.met.out_of_memory ≡ false
-  pub faults : before.faults ≤ a.faults
+  pub number : a.number ≡ 0
+  pub tells : is_some a.kept ≡ is_some before.kept
+  pub faults : a.keeper_faults ≡ before.keeper_faults
   pub written : a.written ≡ before.written
+  pub sink : a.sink_faults ≡ before.sink_faults
 
 -- the office is closed, and what is kept stands for the world's journal
-pub record IsClosed (b : Standing) (now : Told) : Type 0 where
-  pub kept : IfSome now.kept (KeptStandsFor b.world.journal)
-  pub faults : now.faults ≡ b.faults
+record IsLast (b : Standing) (met : Met) (now : Devices) : Type 0 where
+  pub all_met : b.met ≡ met
+  pub kept : b.kept ≡ now.kept
+  pub stands : IfSome now.kept (KeptStandsFor b.world.journal)
+  pub conserved : KeptIsConserved now.kept
+  pub faults : b.keeper_faults ≡ now.keeper_faults
+  pub written : now.written ≡ b.written
+  pub sink : b.sink_faults ≡ now.sink_faults
 
-play_of : (before now : Told) (a b : Standing) (lines : List (List ℕ)) → IsFresh before a → IsClosed b now → (p : AnswersLines a lines b) → IsPlayOf lines p.replies before now
-play_of before now a b lines fresh closed p = record {
-  after = b.world;
-  played = let P : World → Type 0 = λ w. PlaysLines w lines p.replies b.world in subst P fresh.world p.played;
-  shown = plays-shown a.world lines p.replies b.world p.played;
-  marks = marks-read p.replies;
-  kept = closed.kept;
-  risen = let h = fresh.faults in let k = closed.faults in let r = p.risen in omega arith;
-}
-
-met_after : (before after any : Bool) → before ≡ false → after ≡ (before || any) → after ≡ any
-met_after before after any fresh e = e ∙ ap (λ b. b || any) fresh
-
--- the end of a play that came to the end of its input
-pub PlayedToEnd-from : (before now : Told) (a b : Standing) (bytes : List ℕ) (left : Option (List ℕ)) (status : ℕ) → IsFresh before a → IsClosed b now → AnswersLines a (all_lines (cut_of bytes)) b → now.written ≡ b.written → left ≡ Some [] → status ≡ status_met b.met.keeper_fault b.met.out_of_memory → PlayedToEnd bytes before left status now
-PlayedToEnd-from before now a b bytes left status fresh closed p written none is = record {
-  replies = p.replies;
-  play = play_of before now a b (all_lines (cut_of bytes)) fresh closed p;
-  written = written ∙ p.written ∙ ap (option_map (λ done. done ++ flat_map answer_text p.replies)) fresh.written;
-  ended = none;
-  exit = is ∙ ap (λ met. status_met met b.met.out_of_memory) (met_after _ _ _ fresh.keeper_fault p.keeper_fault) ∙ ap (status_met (list_any is_keeper_fault p.replies)) (met_after _ _ _ fresh.out_of_memory p.out_of_memory);
-}
-
-and_then : (told : Option (List ℕ)) (x y : List ℕ) → option_map (λ done. done ++ y) (option_map (λ done. done ++ x) told) ≡ option_map (λ done. done ++ (x ++ y)) told
-and_then None x y = refl
-and_then (Some done) x y = ap Some (append_assoc done x y)
-
--- the end of a play that came to a bad line
-pub PlayedToBadLine-from : (before now : Told) (a b : Standing) (bytes : List ℕ) (left : Option (List ℕ)) (number column : ℕ) → IsFresh before a → IsClosed b now → GaveBadLine uncut bytes left number column a b → now.written ≡ option_map (λ done. done ++ last_line_text (BadLine number column)) b.written → PlayedToBadLine bytes before left now
-PlayedToBadLine-from before now a b bytes left number column fresh closed p written =
-    let lines = take (number - 1) (all_lines (cut_of (take p.count bytes))) in
-    let answered : AnswersLines a lines b = AnswersRest-all a b lines p.stops.answered in
+course_of : (before now : Devices) (a b : Standing) (taken : List ℕ) (lines : List (List ℕ)) (replies : List (Option Reply)) (met : Met) → IsFresh before a → IsLast b met now → KeptIsEmpty before.kept → Gave taken before.input now.input → AreFirst lines (all_lines (cut_of (allowed taken))) → Plays a lines replies b → IsCourse taken lines replies met before now
+course_of before now a b taken lines replies met fresh last empty gave first p =
+    let P : World → Type 0 = λ w. PlaysLines w lines replies b.world in
+    let played = subst P fresh.world p.played in
+    let first_faults = fresh.faults in
+    let last_faults = last.faults in
+    let risen = p.risen in
+    let most = p.most in
     record {
-      count = p.count;
-      gave = p.gave;
-      number = number;
-      column = column;
-      bad = p.stops.bad;
-      whole = p.whole;
-      replies = answered.replies;
-      play = play_of before now a b lines fresh closed answered;
-      written = written ∙ ap (option_map (λ done. done ++ last_line_text (BadLine number column))) (answered.written ∙ ap (option_map (λ done. done ++ flat_map answer_text answered.replies)) fresh.written) ∙ and_then before.written (flat_map answer_text answered.replies) (last_line_text (BadLine number column));
+      was_empty = empty;
+      gave = gave;
+      first = first;
+      after = b.world;
+      played = played;
+      shown = plays-shown started lines replies b.world played;
+      marks = marks-read replies;
+      keeper_fault = ap (λ (m : Met). m.keeper_fault) (sym last.all_met) ∙ p.keeper_fault ∙ ap (λ t. t || list_any is_keeper_fault replies) fresh.keeper_fault;
+      out_of_memory = ap (λ (m : Met). m.out_of_memory) (sym last.all_met) ∙ p.out_of_memory ∙ ap (λ t. t || list_any is_out_of_memory replies) fresh.out_of_memory;
+      kept = last.stands;
+      conserved = last.conserved;
+      tells = ap is_some (sym last.kept) ∙ p.tells ∙ fresh.tells;
+      risen = omega (arith, first_faults, last_faults, risen);
+      most = omega (arith, first_faults, last_faults, most);
     }
 
--- the end of a play that ended between two lines
-pub PlayedComplete-from : (before now : Told) (a b : Standing) (taken : List ℕ) (last : LastLine) → IsFresh before a → IsClosed b now → AnswersLines a (cut_of taken).lines b → now.written ≡ option_map (λ done. done ++ last_line_text last) b.written → PlayedComplete taken last before now
-PlayedComplete-from before now a b taken last fresh closed p written = record {
+text_nil : (text : List ℕ) (told now : Option (List ℕ)) → Wrote text told now → Wrote (text ++ []) told now
+text_nil text told now p = p ∙ ap (λ it. option_map (λ done. done ++ it) told) (sym (append-nil text))
+
+-- what was written since the start
+written_of : (before now : Devices) (a b : Standing) (met : Met) (text : List ℕ) → IsFresh before a → IsLast b met now → Wrote text a.written b.written → Wrote text before.written now.written
+written_of before now a b met text fresh last p = last.written ∙ p ∙ ap (option_map (λ done. done ++ text)) fresh.written
+
+-- a play that ended behind answered lines
+played_as : (ending : Ending) (before now : Devices) (a b : Standing) (taken : List ℕ) (lines : List (List ℕ)) (met : Met) → IsFresh before a → IsLast b met now → KeptIsEmpty before.kept → Gave taken before.input now.input → AreFirst lines (all_lines (cut_of (allowed taken))) → Answers a lines b → EndsAs ending taken lines now.input before.source_faults now.source_faults → PlayedAs ending [] met before now
+played_as ending before now a b taken lines met fresh last empty gave first p ends = record {
+  taken = taken;
+  lines = lines;
   replies = p.replies;
-  play = play_of before now a b (cut_of taken).lines fresh closed p;
-  written = written ∙ ap (option_map (λ done. done ++ last_line_text last)) (p.written ∙ ap (option_map (λ done. done ++ flat_map answer_text p.replies)) fresh.written) ∙ and_then before.written (flat_map answer_text p.replies) (last_line_text last);
+  course = course_of before now a b taken lines p.replies met fresh last empty gave first p.plays;
+  ends = ends;
+  written = text_nil _ _ _ (written_of before now a b met (flat_map answer_text p.replies) fresh last p.written);
 }
 
--- the end of a play at a fault of the source
-pub PlayedToFault-from : (before now : Told) (a b : Standing) (bytes : List ℕ) (left : Option (List ℕ)) → IsFresh before a → IsClosed b now → GaveLines bytes left a b → now.written ≡ option_map (λ done. done ++ last_line_text SourceFault) b.written → PlayedToFault bytes before left now
-PlayedToFault-from before now a b bytes left fresh closed p written = record {
-  count = p.count;
+line_there : (xs ys : List (List ℕ)) (x : List ℕ) → slice_get (xs ++ (x ∷ ys)) (length xs) ≡ Some x
+line_there [] ys x = refl
+line_there (y ∷ xs) ys x = line_there xs ys x
+
+-- the bad line, by its number
+bad_of : (a b : Standing) (all : List (List ℕ)) (number column : ℕ) → a.number ≡ 0 → ComesToBadLine number column a all b → IsBadLine all number column
+bad_of a b all number column fresh p =
+    let here : number - 1 ≡ length p.first = omega (arith, fresh, p.counted) in
+    let P : List (List ℕ) → Type 0 = λ lines. slice_get lines (length p.first) ≡ Some p.bad in
+    let Q : ℕ → Type 0 = λ n. slice_get all n ≡ Some p.bad in
+    record {
+      line = p.bad;
+      there = subst Q (sym here) (subst P (sym p.all) (line_there p.first p.more p.bad));
+      counted = omega (arith, p.counted);
+      bad = p.unread;
+    }
+
+before_bad : (a b : Standing) (all : List (List ℕ)) (number column : ℕ) → a.number ≡ 0 → (p : ComesToBadLine number column a all b) → p.first ≡ take (number - 1) all
+before_bad a b all number column fresh p =
+    let here : number - 1 ≡ length p.first = omega (arith, fresh, p.counted) in
+    sym (ap (λ n. take n all) here ∙ ap (take (length p.first)) p.all ∙ take-append_seam p.first (p.bad ∷ p.more))
+
+played_to_bad : (before now : Devices) (a b : Standing) (taken : List ℕ) (met : Met) (number column : ℕ) → IsFresh before a → IsLast b met now → KeptIsEmpty before.kept → Gave taken before.input now.input → ComesToBadLine number column a (all_lines (cut_of (allowed taken))) b → (number ≤ length (cut_of (allowed taken)).lines) ⊎ (IsWithin taken × IsAtEnd now.input) → PlayedAs (BadLine number column) [] met before now
+played_to_bad before now a b taken met number column fresh last empty gave p whole =
+    played_as (BadLine number column) before now a b taken p.first met fresh last empty gave (record { more = p.bad ∷ p.more; all_are = p.all }) p.answers
+    (bad_of a b _ number column fresh.number p, before_bad a b _ number column fresh.number p, whole)
+
+unanswered : (before now : Devices) (a b : Standing) (taken : List ℕ) (met : Met) → IsFresh before a → IsLast b met now → KeptIsEmpty before.kept → Gave taken before.input now.input → FailsToAnswer a (all_lines (cut_of (allowed taken))) b → SinkFailed met before now
+unanswered before now a b taken met fresh last empty gave p =
+    let first_sink = fresh.sink in
+    let last_sink = last.sink in
+    let cause = p.cause in
+    record {
+      cause = omega (arith, first_sink, last_sink, cause);
+      went = inl (record {
+        taken = taken;
+        lines = p.first;
+        replies = p.answered ++ p.reply ∷ [];
+        course = course_of before now a b taken p.first (p.answered ++ p.reply ∷ []) met fresh last empty gave (record { more = p.more; all_are = p.all }) p.plays;
+        answered = p.answered;
+        text = answer_text p.reply;
+        given = inl (p.reply, refl, refl);
+        front = p.front;
+        within = p.within;
+        written = written_of before now a b met _ fresh last p.written;
+      });
+    }
+
+bad_within : (number before : ℕ) (first more all : List (List ℕ)) (bad : List ℕ) → before ≡ 0 → number ≡ before + length first + 1 → all ≡ first ++ (bad ∷ more) → number ≤ length all
+bad_within number before first more all bad fresh counted is = omega (arith, length-append first (bad ∷ more), ap length is)
+
+-- how a play went, from where reading ended it
+went_reading : (ending : Ending) (before now : Devices) (a b : Standing) (taken : List ℕ) (met : Met) → IsFresh before a → IsLast b met now → KeptIsEmpty before.kept → Gave taken before.input now.input → EndsReading ending a [] 0 taken now.input before.source_faults now.source_faults b → WentAs ending [] met before now
+went_reading InputEnded before now a b taken met fresh last empty gave p =
+    let within : length taken ≤ max_script = let h = p.0 in omega (arith, h) in
+    let P : List ℕ → Type 0 = λ bytes. AreFirst (all_lines (cut_of taken)) (all_lines (cut_of bytes)) in
+    played_as InputEnded before now a b taken (all_lines (cut_of taken)) met fresh last empty gave (subst P (sym (allowed-within taken within)) (AreFirst-all _)) p.2 (within, p.1, refl)
+went_reading SourceFault before now a b taken met fresh last empty gave p =
+    let within : length taken ≤ max_script = let h = p.0 in omega (arith, h) in
+    let P : List ℕ → Type 0 = λ bytes. AreFirst (cut_of taken).lines (all_lines (cut_of bytes)) in
+    played_as SourceFault before now a b taken (cut_of taken).lines met fresh last empty gave (subst P (sym (allowed-within taken within)) (AreFirst-complete (cut_of taken))) p.1 (within, refl, p.2)
+went_reading TooLong before now a b taken met fresh last empty gave p =
+    let more : max_script < length taken = let h = p.0 in omega (arith, h) in
+    played_as TooLong before now a b taken (cut_of (allowed taken)).lines met fresh last empty gave (AreFirst-complete (cut_of (allowed taken))) p.1 (more, refl)
+went_reading (BadLine number column) before now a b taken met fresh last empty gave p =
+    elim p [
+      | inl h ↦ played_to_bad before now a b taken met number column fresh last empty gave (EndsAmong-more (BadLine number column) a b (cut_of (allowed taken)).lines (last_line (cut_of (allowed taken)).rest) h) (inl (bad_within number a.number h.first h.more _ h.bad fresh.number h.counted h.all))
+      | inr h ↦ (
+          let within : length taken ≤ max_script = let k = h.0 in omega (arith, k) in
+          let P : List ℕ → Type 0 = λ bytes. ComesToBadLine number column a (all_lines (cut_of bytes)) b in
+          played_to_bad before now a b taken met number column fresh last empty gave (subst P (sym (allowed-within taken within)) h.2) (inr (within, h.1)))
+    ]
+went_reading SinkFault before now a b taken met fresh last empty gave p =
+    elim p [
+      | inl h ↦ unanswered before now a b taken met fresh last empty gave (EndsAmong-more SinkFault a b (cut_of (allowed taken)).lines (last_line (cut_of (allowed taken)).rest) h)
+      | inr h ↦ (
+          let within : length taken ≤ max_script = let k = h.0 in omega (arith, k) in
+          let P : List ℕ → Type 0 = λ bytes. FailsToAnswer a (all_lines (cut_of bytes)) b in
+          unanswered before now a b taken met fresh last empty gave (subst P (sym (allowed-within taken within)) h.2))
+    ]
+went_reading (NotStarted why) before now a b taken met fresh last empty gave p = elim p [ inl h ↦ absurd h | inr h ↦ absurd h.2 ]
+
+-- how a play went, from its start and its end
+pub went_from : {K : Type 0} (kept : K → Option Kept) (faults : K → ℕ) (keeper : K) (play : Playing K) (ended : Ended K) (input now_input written now_written : Option (List ℕ)) (source_faults now_source_faults sink_faults now_sink_faults : ℕ)
+    → play ≡ record { world = started; met = record { keeper_fault = false; out_of_memory = false }; number = 0; taken = 0; under_way = []; keeper = play.keeper }
+    → KeptIsEmpty (kept keeper)
+    → is_some (kept play.keeper) ≡ is_some (kept keeper)
+    → faults play.keeper ≡ faults keeper
+    → EndedReading kept faults (standing kept faults play written sink_faults) play.under_way play.taken (source_seen input now_input source_faults now_source_faults) ended now_written now_sink_faults
+    → WentAs ended.ending [] ended.met (devices input written (kept keeper) source_faults sink_faults (faults keeper)) (devices now_input now_written (kept ended.keeper) now_source_faults now_sink_faults (faults ended.keeper))
+went_from {K} kept faults keeper play ended input now_input written now_written source_faults now_source_faults sink_faults now_sink_faults begun_is empty tells same p =
+    let P : Playing K → Type 0 = λ it. EndedReading kept faults (standing kept faults it written sink_faults) it.under_way it.taken (source_seen input now_input source_faults now_source_faults) ended now_written now_sink_faults in
+    let q = subst P begun_is p in
+    went_reading ended.ending _ _ _ (left_standing kept faults ended q.left.world q.left.number now_written now_sink_faults) q.bytes ended.met
+    (record { world = refl; keeper_fault = refl; out_of_memory = refl; number = refl; tells = tells; faults = same; written = refl; sink = refl })
+    (record { all_met = refl; kept = refl; stands = q.left.stands; conserved = q.left.conserved; faults = refl; written = refl; sink = refl })
+    empty q.gave q.ends
+
+-- the last line changes nothing but what is written and the sink's count
+course_still : (taken : List ℕ) (lines : List (List ℕ)) (replies : List (Option Reply)) (met : Met) (before mid : Devices) (written : Option (List ℕ)) (sink : ℕ) → IsCourse taken lines replies met before mid → IsCourse taken lines replies met before (record mid { written = written; sink_faults = sink })
+course_still taken lines replies met before mid written sink p = record {
+  was_empty = p.was_empty;
   gave = p.gave;
-  played = PlayedComplete-from before now a b (take p.count bytes) SourceFault fresh closed p.answered written;
+  first = p.first;
+  after = p.after;
+  played = p.played;
+  shown = p.shown;
+  marks = p.marks;
+  keeper_fault = p.keeper_fault;
+  out_of_memory = p.out_of_memory;
+  kept = p.kept;
+  conserved = p.conserved;
+  tells = p.tells;
+  risen = p.risen;
+  most = p.most;
 }
 
--- a start that failed at the keeper or for want of memory
-among : (status : ℕ) → (status ≡ 0) ⊎ (status ≡ 5) ⊎ (status ≡ 7) → (status ≡ 4) ⊎ (status ≡ 5) ⊎ (status ≡ 7) ⊎ (status ≡ 8) → (status ≡ 5) ⊎ (status ≡ 7)
-among status (inr is) other = is
-among status (inl none) (inl is) = absurd (omega arith)
-among status (inl none) (inr (inl is)) = inl is
-among status (inl none) (inr (inr (inl is))) = inr is
-among status (inl none) (inr (inr (inr is))) = absurd (omega arith)
+unstarted_still : (why : StartFault) (before mid : Devices) (written : Option (List ℕ)) (sink : ℕ) → IsUnstarted why before mid → IsUnstarted why before (record mid { written = written; sink_faults = sink })
+unstarted_still why before mid written sink p = record {
+  unread = p.unread;
+  untried = p.untried;
+  kept = p.kept;
+  cause = p.cause;
+  not_empty = p.not_empty;
+  counted = p.counted;
+  most = p.most;
+}
 
--- nothing was read where the start failed
-pub StartFailed-told : (source : Option (List ℕ)) (before now : Told) (status : ℕ) (bytes : List ℕ) → source ≡ Some bytes → (status ≡ 5) ⊎ (status ≡ 7) → (status ≡ 5 → Wrote (reply_text KeeperFault) before now) → (status ≡ 7 → Wrote (reply_text OutOfMemory) before now) → now.kept ≡ before.kept → (status ≡ 5 → HasRisen before.faults now.faults) → before.faults ≤ now.faults → StartFailed (Some bytes) before source status now
-StartFailed-told source before now status bytes tells (inl is) keeper_text memory_text kept cause counted =
-    let risen = cause is in
+text_then : (text more : List ℕ) (a b c : Option (List ℕ)) → Wrote (text ++ []) a b → Wrote more b c → Wrote (text ++ more) a c
+text_then text more a b c p q =
+    let P : List ℕ → Type 0 = λ it. Wrote (it ++ more) a c in subst P (append-nil text) (Wrote-then (text ++ []) more a b c p q)
+
+played_last : (ending : Ending) (last : List ℕ) (met : Met) (before mid : Devices) (written : Option (List ℕ)) (sink : ℕ) → PlayedAs ending [] met before mid → Wrote last mid.written written → PlayedAs ending last met before (record mid { written = written; sink_faults = sink })
+played_last ending last met before mid written sink p wrote = record {
+  taken = p.taken;
+  lines = p.lines;
+  replies = p.replies;
+  course = course_still p.taken p.lines p.replies met before mid written sink p.course;
+  ends = p.ends;
+  written = text_then (flat_map answer_text p.replies) last _ _ _ p.written wrote;
+}
+
+sink_still : (met : Met) (before mid : Devices) (written : Option (List ℕ)) (sink : ℕ) → mid.sink_faults ≤ sink → Wrote [] mid.written written → SinkFailed met before mid → SinkFailed met before (record mid { written = written; sink_faults = sink })
+sink_still met before mid written sink counted wrote p =
+    let cause = p.cause in
+    let same : written ≡ mid.written = wrote ∙ sym (Wrote-none mid.written) in
     record {
-      reply = KeeperFault;
-      why = inl refl;
-      written = keeper_text is;
-      kept = kept;
-      unread = tells;
-      exit = is;
-      risen = omega arith;
+      cause = omega (arith, cause, counted);
+      went = elim p.went [
+        | inl q ↦ inl (record {
+          taken = q.taken;
+          lines = q.lines;
+          replies = q.replies;
+          course = course_still q.taken q.lines q.replies met before mid written sink q.course;
+          answered = q.answered;
+          text = q.text;
+          given = q.given;
+          front = q.front;
+          within = q.within;
+          written = same ∙ q.written;
+        })
+        | inr q ↦ inr (record {
+          why = q.why;
+          unstarted = unstarted_still q.why before mid written sink q.unstarted;
+          written = record { count = q.written.count; within = q.written.within; written = same ∙ q.written.written };
+        })
+      ];
     }
-StartFailed-told source before now status bytes tells (inr is) keeper_text memory_text kept cause counted = record {
-  reply = OutOfMemory;
-  why = inr refl;
-  written = memory_text is;
-  kept = kept;
-  unread = tells;
-  exit = is;
-  risen = omega arith;
+
+-- the last line was written
+pub went_last : (ending : Ending) (met : Met) (before mid : Devices) (written : Option (List ℕ)) (sink : ℕ) → mid.sink_faults ≤ sink → Wrote (last_text ending) mid.written written → WentAs ending [] met before mid → WentAs ending (last_text ending) met before (record mid { written = written; sink_faults = sink })
+went_last (NotStarted why) met before mid written sink counted wrote p = record {
+  unstarted = unstarted_still why before mid written sink p.unstarted;
+  written = Wrote-then [] (last_text (NotStarted why)) _ _ _ p.written wrote;
+}
+went_last SinkFault met before mid written sink counted wrote p = sink_still met before mid written sink counted wrote p
+went_last ending met before mid written sink counted wrote p = played_last ending (last_text ending) met before mid written sink p wrote
+
+played_unwritten : (ending : Ending) (met : Met) (before mid : Devices) (front : ℕ) (written : Option (List ℕ)) (sink : ℕ) → front ≤ length (last_text ending) → Wrote (take front (last_text ending)) mid.written written → PlayedAs ending [] met before mid → PlayedUnwritten met before (record mid { written = written; sink_faults = sink })
+played_unwritten ending met before mid front written sink within wrote p = record {
+  taken = p.taken;
+  lines = p.lines;
+  replies = p.replies;
+  course = course_still p.taken p.lines p.replies met before mid written sink p.course;
+  answered = p.replies;
+  text = last_text ending;
+  given = inr (ending, refl, refl);
+  front = front;
+  within = within;
+  written = text_then (flat_map answer_text p.replies) (take front (last_text ending)) _ _ _ p.written wrote;
 }
 
-not_at : (n status : ℕ) → n ≢ 4 → n ≢ 5 → n ≢ 7 → n ≢ 8 → (status ≡ 4) ⊎ (status ≡ 5) ⊎ (status ≡ 7) ⊎ (status ≡ 8) → status ≡ n → ⊥
-not_at n status a b c d (inl is) e = a (sym e ∙ is)
-not_at n status a b c d (inr (inl is)) e = b (sym e ∙ is)
-not_at n status a b c d (inr (inr (inl is))) e = c (sym e ∙ is)
-not_at n status a b c d (inr (inr (inr is))) e = d (sym e ∙ is)
+no_front : (front : ℕ) (a b : Option (List ℕ)) → front ≤ 0 → Wrote (take front []) a b → Wrote [] a b
+no_front zero a b h p = p
+no_front (suc front) a b h p = absurd (omega (arith, h))
 
--- a run whose start failed
-pub PlayedAs-failed : (bytes : List ℕ) (before : Told) (left : Option (List ℕ)) (status : ℕ) (now : Told) → (status ≡ 4) ⊎ (status ≡ 5) ⊎ (status ≡ 7) ⊎ (status ≡ 8) → ((status ≡ 5) ⊎ (status ≡ 7) → StartFailed (Some bytes) before left status now) → PlayedAs bytes before left status now
-PlayedAs-failed bytes before left status now ends failed = record {
-  input_ended = λ e. inr (failed (among status e ends));
-  bad_line = λ e. absurd (not_at 2 status (λ h. omega arith) (λ h. omega arith) (λ h. omega arith) (λ h. omega arith) ends e);
-  source_fault = λ e. absurd (not_at 3 status (λ h. omega arith) (λ h. omega arith) (λ h. omega arith) (λ h. omega arith) ends e);
-  too_long = λ e. absurd (not_at 9 status (λ h. omega arith) (λ h. omega arith) (λ h. omega arith) (λ h. omega arith) ends e);
+-- the last line was not written whole
+pub went_unwritten : (ending : Ending) (met : Met) (before mid : Devices) (front : ℕ) (written : Option (List ℕ)) (sink : ℕ) → before.sink_faults ≤ mid.sink_faults → mid.sink_faults ≤ sink → HasRisen mid.sink_faults sink → front ≤ length (last_text ending) → Wrote (take front (last_text ending)) mid.written written → WentAs ending [] met before mid → SinkFailed met before (record mid { written = written; sink_faults = sink })
+went_unwritten (NotStarted why) met before mid front written sink counted still risen within wrote p = record {
+  cause = omega (arith, counted, risen);
+  went = inr (record {
+    why = why;
+    unstarted = unstarted_still why before mid written sink p.unstarted;
+    written = record { count = front; within = within; written = Wrote-then [] (take front (last_text (NotStarted why))) _ _ _ p.written wrote };
+  });
+}
+went_unwritten SinkFault met before mid front written sink counted still risen within wrote p = sink_still met before mid written sink still (no_front front _ _ within wrote) p
+went_unwritten ending met before mid front written sink counted still risen within wrote p = record {
+  cause = omega (arith, counted, risen);
+  went = inl (played_unwritten ending met before mid front written sink within wrote p);
 }
 
-not_among : (status : ℕ) → (status ≡ 1) ⊎ (status ≡ 4) → (status ≡ 5) ⊎ (status ≡ 7) → ⊥
-not_among status (inl is) (inl e) = omega arith
-not_among status (inl is) (inr e) = omega arith
-not_among status (inr is) (inl e) = omega arith
-not_among status (inr is) (inr e) = omega arith
+-- what is kept after a run: it stands for a journal and is conserved, and is told as before, or it is what was kept before
+pub record StandsStill (before now : Option Kept) : Type 0 where
+  pub consistent : KeptIsConsistent before → KeptIsConsistent now
+  pub conserved : KeptIsConserved before → KeptIsConserved now
+  pub tells : is_some now ≡ is_some before
 
-no_command : (n status : ℕ) → n ≢ 1 → n ≢ 4 → (status ≡ 1) ⊎ (status ≡ 4) → status ≡ n → ⊥
-no_command n status a b (inl is) e = a (sym e ∙ is)
-no_command n status a b (inr is) e = b (sym e ∙ is)
-
-none_ended : (status : ℕ) → (status ≡ 1) ⊎ (status ≡ 4) → (status ≡ 0) ⊎ (status ≡ 5) ⊎ (status ≡ 7) → ⊥
-none_ended status ends (inl e) = no_command 0 status (λ h. omega arith) (λ h. omega arith) ends e
-none_ended status ends (inr e) = not_among status ends e
-
--- a run of no command
-pub PlayedAs-no_command : (bytes : List ℕ) (before : Told) (left : Option (List ℕ)) (status : ℕ) (now : Told) → (status ≡ 1) ⊎ (status ≡ 4) → PlayedAs bytes before left status now
-PlayedAs-no_command bytes before left status now ends = record {
-  input_ended = λ e. absurd (none_ended status ends e);
-  bad_line = λ e. absurd (no_command 2 status (λ h. omega arith) (λ h. omega arith) ends e);
-  source_fault = λ e. absurd (no_command 3 status (λ h. omega arith) (λ h. omega arith) ends e);
-  too_long = λ e. absurd (no_command 9 status (λ h. omega arith) (λ h. omega arith) ends e);
+still_same : (before now : Option Kept) → now ≡ before → StandsStill before now
+still_same before now same = record {
+  consistent = λ h. subst KeptIsConsistent (sym same) h;
+  conserved = λ h. subst KeptIsConserved (sym same) h;
+  tells = ap is_some same;
 }
+
+rows_stand : (now : Option Kept) (w : World) → IfSome now (KeptStandsFor w.journal) → KeptIsConsistent now
+rows_stand None w h = tt
+rows_stand (Some kept) w h = h.1 ∙ ap rows (sym h.0)
+
+still_course : (taken : List ℕ) (lines : List (List ℕ)) (replies : List (Option Reply)) (met : Met) (before now : Devices) → IsCourse taken lines replies met before now → StandsStill before.kept now.kept
+still_course taken lines replies met before now p = record {
+  consistent = λ h. rows_stand now.kept p.after p.kept;
+  conserved = λ h. p.conserved;
+  tells = p.tells;
+}
+
+pub stands_still : (ending : Ending) (last : List ℕ) (met : Met) (before now : Devices) → WentAs ending last met before now → StandsStill before.kept now.kept
+stands_still (NotStarted why) last met before now p = still_same before.kept now.kept p.unstarted.kept
+stands_still SinkFault last met before now p = elim p.went [ inl q ↦ still_course _ _ _ _ before now q.course | inr q ↦ still_same before.kept now.kept q.unstarted.kept ]
+stands_still ending last met before now p = still_course _ _ _ _ before now p.course

@@ -1,6 +1,6 @@
 -- Each step is shown: its line has one output line or none, and the line gives the mark.
 use Rattle.std.proofs.Common.{◌≡◌, ℕ, zero, suc, Bool, map, append_assoc, ◌+◌, ◌-◌, length, ◌/◌, ◌%◌, ◌==◌, true, false, ◌||◌, List, [], ◌∷◌, ◌++◌, Option, Some, None, refl, sym, ap, ◌∙◌, is_some, arith, nat_lt}
-use Rattle.std.specs.Prelude.{IfSome, if◌then◌else◌, codes, decimal, nat_le}
+use Rattle.std.specs.Prelude.{IfSome, IsTrue, if◌then◌else◌, codes, decimal, nat_le}
 use Rattle.std.specs.Fmt.{digits, digits_onto, digit_glyph}
 use Rattle.std.specs.List.{flat_map}
 use Rattle.std.proofs.lemmas.List.Folds.{list_any-append}
@@ -17,8 +17,11 @@ use Rattle.notice_ledger.specs.Outbox.{mail_entries}
 use Rattle.notice_ledger.specs.Refusals.{refusal}
 use Rattle.notifyd.specs.Reply.{reply_text}
 use Rattle.notifyd.specs.Words.{answer_words, mail_words, account_words, count_words, refusal_number, limit_words, refusal_words}
-use Rattle.notifyd.specs.Play.{World, Mark, Step, step, asked_unless, mailed_for, MayHave, IsStep, PlaysLines, mark_of, answer_text, stamp_now, with_event}
-use Rattle.notifyd.specs.Play.Mark.{Clean, NoMemory, KeeperFault}
+use Rattle.notifyd.specs.World.{World, stamp_now, with_event}
+use Rattle.notifyd.specs.Step.{Step, clean_step, asked_unless, mailed_for}
+use Rattle.notifyd.specs.Mark.{Mark, step, may_want_memory, adds_event, MayHave, mark_of}
+use Rattle.notifyd.specs.Mark.Mark.{Clean, NoMemory, KeeperFault}
+use Rattle.notifyd.specs.Play.{IsStep, PlaysLines, answer_text}
 use Rattle.notifyd.specs.Shown.{has_output, has_line_feed, IsOneLine, GivesMark, IsShown, AreShown, lines_after, mark_given, marks_given, marks_of}
 use Rattle.notifyd.specs.declared.line.Line.{Line}
 use Rattle.notifyd.specs.declared.line.Line.TheVariants as line
@@ -111,23 +114,31 @@ mailed_answered (Some d) w =
       | false ↦ refl
     ]
 
+-- where nothing fails a step has a reply where its line has an output line
+clean_answered : (w : World) (l : Line) → is_some (clean_step w l).reply ≡ has_output l
+clean_answered w line.Nothing = refl
+clean_answered w (line.At moment) = refl
+clean_answered w (line.Asked request) = asked_answered (refusal w.journal request) w request
+clean_answered w line.Mail = mailed_answered (first_due w.journal) w
+clean_answered w line.Audit = refl
+
+-- a line that may want memory has an output line
+wanting_answered : (w : World) (l : Line) → IsTrue (may_want_memory w l) → true ≡ has_output l
+wanting_answered w line.Nothing h = cc
+wanting_answered w (line.At moment) h = cc
+wanting_answered w _ h = refl
+
+-- a line that would add an event has an output line
+adding_answered : (w : World) (l : Line) → IsTrue (adds_event w l) → true ≡ has_output l
+adding_answered w line.Nothing h = cc
+adding_answered w (line.At moment) h = cc
+adding_answered w _ h = refl
+
 -- a step has a reply where its line has an output line
 step_answered : (w : World) (l : Line) (m : Mark) → MayHave w l m → is_some (step w l m).reply ≡ has_output l
-step_answered w line.Nothing Clean h = refl
-step_answered w (line.At moment) Clean h = refl
-step_answered w (line.Asked request) Clean h = asked_answered (refusal w.journal request) w request
-step_answered w line.Mail Clean h = mailed_answered (first_due w.journal) w
-step_answered w line.Audit Clean h = refl
-step_answered w line.Nothing NoMemory h = cc
-step_answered w (line.At moment) NoMemory h = cc
-step_answered w (line.Asked request) NoMemory h = refl
-step_answered w line.Mail NoMemory h = refl
-step_answered w line.Audit NoMemory h = cc
-step_answered w line.Nothing KeeperFault h = cc
-step_answered w (line.At moment) KeeperFault h = cc
-step_answered w (line.Asked request) KeeperFault h = refl
-step_answered w line.Mail KeeperFault h = refl
-step_answered w line.Audit KeeperFault h = cc
+step_answered w l Clean h = clean_answered w l
+step_answered w l NoMemory h = wanting_answered w l h
+step_answered w l KeeperFault h = adding_answered w l h
 
 given : (answer : Option Reply) → IfSome answer GivesMark
 given None = tt

@@ -1,5 +1,5 @@
 -- The lines of a script, cut from its bytes.
-use Rattle.std.specs.Prelude.{◌≡◌, ℕ, ◌-◌, ◌<◌, ◌≤◌, ◌==◌, ◌||◌, ◌⊎◌, Bool, List, [], ◌∷◌, ◌++◌, length, drop, nat_lt, fold, slice_get, Some, Option, option_map, IfSome, if◌then◌else◌, Err}
+use Rattle.std.specs.Prelude.{◌≡◌, ℕ, ◌-◌, ◌≤◌, ◌==◌, ◌||◌, Bool, List, [], ◌∷◌, ◌++◌, length, take, nat_lt, fold, slice_get, Some, if◌then◌else◌, Err}
 use Rattle.notifyd.specs.Grammar.{reading, max_line}
 
 -- the most bytes that a script may have
@@ -26,12 +26,13 @@ cut_more cut byte =
 unfoldable pub cut_on : Cut → List ℕ → Cut
 cut_on cut bytes = fold cut_more cut bytes
 
-abbrev pub uncut : Cut
-uncut = record { lines = []; rest = [] }
+-- no line yet, and these bytes under way
+abbrev pub begun : List ℕ → Cut
+begun under_way = record { lines = []; rest = under_way }
 
 -- the bytes of a script, cut into lines
 abbrev pub cut_of : List ℕ → Cut
-cut_of bytes = cut_on uncut bytes
+cut_of bytes = cut_on (begun []) bytes
 
 -- bytes behind the last complete line are a line where there are any
 abbrev pub last_line : List ℕ → List (List ℕ)
@@ -49,22 +50,6 @@ pub record IsBadLine (lines : List (List ℕ)) (number column : ℕ) : Type 0 wh
   pub counted : 1 ≤ number
   pub bad : reading line ≡ Err column
 
--- so many lines are complete, and these bytes stand behind them
-pub record IsCutAt (cut : Cut) (number : ℕ) (under_way : List ℕ) : Type 0 where
-  pub complete : length cut.lines ≡ number
-  pub behind : cut.rest ≡ under_way
-
--- the source gave so many bytes, where it tells
-pub record GaveBytes (count : ℕ) (before after : Option (List ℕ)) : Type 0 where
-  pub within : IfSome before (λ bytes. count ≤ length bytes)
-  pub left : after ≡ option_map (λ bytes. drop count bytes) before
-
--- the line of this number is complete, or the source was read to its end
-abbrev pub IsWholeLine : Cut → ℕ → Option (List ℕ) → Type 0
-IsWholeLine cut number left = (number ≤ length cut.lines) ⊎ IfSome left (λ rest. rest ≡ [])
-
--- the source gave more bytes than so many
-pub record GaveMore (most : ℕ) (before after : Option (List ℕ)) : Type 0 where
-  pub count : ℕ
-  pub gave : GaveBytes count before after
-  pub more : most < count
+-- the bytes of a script that may be played
+abbrev pub allowed : List ℕ → List ℕ
+allowed bytes = take max_script bytes

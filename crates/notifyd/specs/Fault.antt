@@ -1,11 +1,26 @@
 -- Why a line is not read.
-use Rattle.std.specs.Prelude.{◌≡◌, ℕ, Result, Ok, Err}
+use Rattle.std.specs.Prelude.{◌≡◌, ℕ, Bool, true, false, Result, Ok, Err}
 use Rattle.notifyd.specs.declared.line.Line.{Line}
 use Rattle.notifyd.specs.declared.line.LineFault.{LineFault}
 use Rattle.notifyd.specs.declared.line.LineFault.TheVariants.{BadLine, OutOfMemory}
-use Rattle.notifyd.specs.Grammar.{IsRequest}
+use Rattle.notifyd.specs.Grammar.{IsRequest, is_request}
 
 -- a bad line has the column at which it is bad, and memory is wanted only for a request
 abbrev pub MatchesFault : Result Line ℕ → LineFault → Type 0
 MatchesFault reading (BadLine column) = reading ≡ Err column
 MatchesFault reading OutOfMemory = (line : Line) × (reading ≡ Ok line) × IsRequest line
+
+-- a part of a line is bad at its column, and wants no memory
+abbrev pub IsBadAt : {A : Type 0} → Result A ℕ → LineFault → Type 0
+IsBadAt reading (BadLine column) = reading ≡ Err column
+IsBadAt reading OutOfMemory = ⊥
+
+-- what is read is a request
+abbrev pub reads_request : Result Line ℕ → Bool
+reads_request (Ok line) = is_request line
+reads_request _ = false
+
+-- the same of a line that is read, as a test
+abbrev pub IsFaultOf : Result Line ℕ → LineFault → Type 0
+IsFaultOf reading (BadLine column) = reading ≡ Err column
+IsFaultOf reading OutOfMemory = reads_request reading ≡ true

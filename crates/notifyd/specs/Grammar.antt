@@ -1,5 +1,5 @@
 -- The lines of a script: what the bytes of a line read as.
-use Rattle.std.specs.Prelude.{ℕ, ◌+◌, ◌-◌, ◌==◌, ◌&&◌, ◌||◌, Bool, false, List, length, take, slice_index, nat_lt, if◌then◌else◌, Result, Ok, Err, codes, bytes_eq}
+use Rattle.std.specs.Prelude.{ℕ, ◌+◌, ◌-◌, ◌==◌, ◌&&◌, ◌||◌, Bool, true, false, IsTrue, List, length, take, slice_index, nat_lt, if◌then◌else◌, Result, Ok, Err, codes, bytes_eq}
 use Rattle.std.specs.List.{list_all}
 use Rattle.std.specs.Str.Lossy.{utf8_valid_len}
 use Rattle.chat_model.specs.declared.request.Request.TheVariants.{AddUser, AddGroup, Member, AddChannel, Subscribe, Send}
@@ -140,9 +140,9 @@ reading bytes =
     else content_reading (content_of bytes))
 
 -- the line is a request
+abbrev pub is_request : Line → Bool
+is_request (Asked request) = true
+is_request _ = false
+
 abbrev pub IsRequest : Line → Type 0
-IsRequest Nothing = ⊥
-IsRequest (At moment) = ⊥
-IsRequest (Asked request) = Unit {0}
-IsRequest Mail = ⊥
-IsRequest Audit = ⊥
+IsRequest line = IsTrue (is_request line)

@@ -1,127 +1,190 @@
--- What a run of `play` read, wrote and kept.
-use Rattle.std.specs.Prelude.{◌≡◌, ℕ, ◌-◌, ◌≤◌, List, [], ◌∷◌, ◌++◌, length, take, count_by, Option, Some, IfSome, IsSome, IsOk, option_map, ◌⊎◌}
+-- How a run of `play` went, by its ending: what was read, played, written and kept.
+use Rattle.std.specs.Prelude.{◌≡◌, ℕ, ◌+◌, ◌-◌, ◌<◌, ◌≤◌, List, [], ◌∷◌, ◌++◌, length, take, count_by, Option, Some, IfSome, IsSome, IsOk, is_some, option_map, ◌⊎◌, ⊤}
 use Rattle.std.specs.List.{list_any, flat_map, AllByRecursion}
 use Rattle.chat_model.specs.Counts.{HasRisen}
-use Rattle.chat_model.specs.declared.event.Event.TheVariants.{Restart}
 use Rattle.keeper.specs.declared.keeper.Kept.{Kept}
+use Rattle.office.specs.declared.answer.StartFault.{StartFault}
+use Rattle.office.specs.declared.answer.StartFault.TheVariants.{KeeperFault, NotEmpty}
+use Rattle.office.specs.Faults.{faults_in_start}
 use Rattle.office.specs.Office.{KeptStandsFor}
 use Rattle.notifyd.specs.declared.reply.Reply.{Reply}
-use Rattle.notifyd.specs.declared.reply.Reply.TheVariants.{KeeperFault, OutOfMemory}
-use Rattle.notifyd.specs.declared.last_line.LastLine.{LastLine}
-use Rattle.notifyd.specs.declared.last_line.LastLine.TheVariants.{BadLine, SourceFault, TooLong}
+use Rattle.notifyd.specs.declared.ending.Ending.{Ending}
+use Rattle.notifyd.specs.declared.ending.Ending.TheVariants.{InputEnded, BadLine, SourceFault, TooLong, SinkFault, NotStarted}
+use Rattle.notifyd.specs.declared.ending.Met.{Met}
+use Rattle.notifyd.specs.Sink.{WritesFront}
 use Rattle.notifyd.specs.Grammar.{reading}
-use Rattle.notifyd.specs.Reply.{reply_text}
-use Rattle.notifyd.specs.LastLine.{last_line_text}
-use Rattle.notifyd.specs.Cut.{IsBadLine, IsWholeLine, GaveBytes, max_script, cut_of, all_lines}
-use Rattle.notifyd.specs.Play.{World, world, PlaysLines, HaveRisen, answer_text, is_keeper_fault, is_out_of_memory}
+use Rattle.notifyd.specs.Cut.{IsBadLine, max_script, cut_of, all_lines, allowed}
+use Rattle.notifyd.specs.World.{World, started}
+use Rattle.notifyd.specs.Play.{PlaysLines, HaveRisen, answer_text, is_keeper_fault, is_out_of_memory}
 use Rattle.notifyd.specs.Shown.{AreShown, marks_given, marks_of}
-use Rattle.notifyd.specs.Status.{status_met, KeptIsEmpty}
+use Rattle.notifyd.specs.Ending.{last_text, status_of}
+use Rattle.notifyd.specs.Status.{status_number, KeptIsEmpty, KeptIsConserved}
 
--- what the devices of a run tell: the bytes written, what is kept, and how often the keeper failed
-pub record Told : Type 0 where
+-- what the devices of a run tell, the bytes to come, the bytes written and what is kept, and how often each failed
+pub record Devices : Type 0 where
+  pub input : Option (List ℕ)
   pub written : Option (List ℕ)
   pub kept : Option Kept
-  pub faults : ℕ
+  pub source_faults : ℕ
+  pub sink_faults : ℕ
+  pub keeper_faults : ℕ
 
-abbrev pub told_by : Option (List ℕ) → Option Kept → ℕ → Told
-told_by written kept faults = record { written = written; kept = kept; faults = faults }
+abbrev pub devices : Option (List ℕ) → Option (List ℕ) → Option Kept → ℕ → ℕ → ℕ → Devices
+devices input written kept source_faults sink_faults keeper_faults = record {
+  input = input;
+  written = written;
+  kept = kept;
+  source_faults = source_faults;
+  sink_faults = sink_faults;
+  keeper_faults = keeper_faults;
+}
 
--- the world that a start makes: its journal is one restart, at moment 0, and that is the clock
-abbrev pub started : World
-started = world (record { at = 0; event = Restart } ∷ []) 0
+-- the source gave these bytes: where it tells, they and what is still to come are what was to come before
+abbrev pub Gave : List ℕ → Option (List ℕ) → Option (List ℕ) → Type 0
+Gave taken before now = before ≡ option_map (λ rest. taken ++ rest) now
 
--- this text was written since, and nothing else
-abbrev pub Wrote : List ℕ → Told → Told → Type 0
-Wrote text before now = now.written ≡ option_map (λ done. done ++ text) before.written
+-- nothing is still to come, where the source tells
+abbrev pub IsAtEnd : Option (List ℕ) → Type 0
+IsAtEnd input = IfSome input (λ rest. rest ≡ [])
 
--- the lines are played from the start on, with these replies, whose marks are read off the text that is written; what
--- is kept stands for the journal of the world after them, and the keeper's count rose by as many as the replies that
--- are its faults
-pub record IsPlayOf (lines : List (List ℕ)) (replies : List (Option Reply)) (before now : Told) : Type 0 where
+-- this text was written since, and nothing else, where the sink tells
+abbrev pub Wrote : List ℕ → Option (List ℕ) → Option (List ℕ) → Type 0
+Wrote text before now = now ≡ option_map (λ done. done ++ text) before
+
+-- these are the first of the lines
+pub record AreFirst (lines all : List (List ℕ)) : Type 0 where
+  pub more : List (List ℕ)
+  pub all_are : all ≡ lines ++ more
+
+-- the office was started over an empty keeper; the source gave these bytes, and lines of them, the first of those that
+-- the bytes within the limit give, were played from the start on with these replies, whose marks are read off the text
+-- that they give, and which say what was met; what is kept stands for the journal of the world after them, and the
+-- keeper's count rose by as many as the replies that are its faults, and by no more
+pub record IsCourse (taken : List ℕ) (lines : List (List ℕ)) (replies : List (Option Reply)) (met : Met) (before now : Devices) : Type 0 where
+  pub was_empty : KeptIsEmpty before.kept
+  pub gave : Gave taken before.input now.input
+  pub first : AreFirst lines (all_lines (cut_of (allowed taken)))
   pub after : World
   pub played : PlaysLines started lines replies after
   pub shown : AreShown lines replies
   pub marks : marks_given (flat_map answer_text replies) ≡ marks_of replies
+  pub keeper_fault : met.keeper_fault ≡ list_any is_keeper_fault replies
+  pub out_of_memory : met.out_of_memory ≡ list_any is_out_of_memory replies
   pub kept : IfSome now.kept (KeptStandsFor after.journal)
-  pub risen : HaveRisen (count_by is_keeper_fault replies) before.faults now.faults
+  pub conserved : KeptIsConserved now.kept
+  pub tells : is_some now.kept ≡ is_some before.kept
+  pub risen : HaveRisen (count_by is_keeper_fault replies) before.keeper_faults now.keeper_faults
+  pub most : now.keeper_faults ≤ before.keeper_faults + count_by is_keeper_fault replies
 
--- all that the source had was read and played: the text of the replies was written, and the status says what was met
-pub record PlayedToEnd (bytes : List ℕ) (before : Told) (left : Option (List ℕ)) (status : ℕ) (now : Told) : Type 0 where
+-- the bytes have no more than a script may have
+abbrev pub IsWithin : List ℕ → Type 0
+IsWithin taken = length taken ≤ max_script
+
+-- where a play that was begun ended so, of which bytes were taken and lines played, by what is still to come and by the
+-- source's count: all that the source had was read and all its lines were played; or those before a bad line, which is
+-- complete within the limit or the last of all; or those that are complete, where the source failed, or within the
+-- limit, where more came
+abbrev pub EndsAs : Ending → List ℕ → List (List ℕ) → Option (List ℕ) → ℕ → ℕ → Type 0
+EndsAs InputEnded taken lines input faults now_faults = IsWithin taken × IsAtEnd input × (lines ≡ all_lines (cut_of taken))
+EndsAs (BadLine number column) taken lines input faults now_faults =
+    IsBadLine (all_lines (cut_of (allowed taken))) number column
+    × (lines ≡ take (number - 1) (all_lines (cut_of (allowed taken))))
+    × ((number ≤ length (cut_of (allowed taken)).lines) ⊎ (IsWithin taken × IsAtEnd input))
+EndsAs SourceFault taken lines input faults now_faults =
+    IsWithin taken × (lines ≡ (cut_of taken).lines) × HasRisen faults now_faults
+EndsAs TooLong taken lines input faults now_faults =
+    (max_script < length taken) × (lines ≡ (cut_of (allowed taken)).lines)
+EndsAs _ taken lines input faults now_faults = ⊥
+
+-- a play that was begun ended so: the text of its replies was written, and then a last text
+pub record PlayedAs (ending : Ending) (last : List ℕ) (met : Met) (before now : Devices) : Type 0 where
+  pub taken : List ℕ
+  pub lines : List (List ℕ)
   pub replies : List (Option Reply)
-  pub play : IsPlayOf (all_lines (cut_of bytes)) replies before now
-  pub written : Wrote (flat_map answer_text replies) before now
-  pub ended : left ≡ Some []
-  pub exit : status ≡ status_met (list_any is_keeper_fault replies) (list_any is_out_of_memory replies)
+  pub course : IsCourse taken lines replies met before now
+  pub ends : EndsAs ending taken lines now.input before.source_faults now.source_faults
+  pub written : Wrote (flat_map answer_text replies ++ last) before.written now.written
 
--- the lines before a bad one, which is complete or the last of all, were played: the text of their replies was written,
--- and then the bad line's number and column
-pub record PlayedToBadLine (bytes : List ℕ) (before : Told) (left : Option (List ℕ)) (now : Told) : Type 0 where
-  pub count : ℕ
-  pub gave : GaveBytes count (Some bytes) left
-  pub number : ℕ
-  pub column : ℕ
-  pub bad : IsBadLine (all_lines (cut_of (take count bytes))) number column
-  pub whole : IsWholeLine (cut_of (take count bytes)) number left
-  pub replies : List (Option Reply)
-  pub play : IsPlayOf (take (number - 1) (all_lines (cut_of (take count bytes)))) replies before now
-  pub written : Wrote (flat_map answer_text replies ++ last_line_text (BadLine number column)) before now
-
--- the lines that are complete in the bytes taken were played: the text of their replies was written, and then a last
--- line
-pub record PlayedComplete (taken : List ℕ) (last : LastLine) (before now : Told) : Type 0 where
-  pub replies : List (Option Reply)
-  pub play : IsPlayOf (cut_of taken).lines replies before now
-  pub written : Wrote (flat_map answer_text replies ++ last_line_text last) before now
-
--- the source failed after so many bytes
-pub record PlayedToFault (bytes : List ℕ) (before : Told) (left : Option (List ℕ)) (now : Told) : Type 0 where
-  pub count : ℕ
-  pub gave : GaveBytes count (Some bytes) left
-  pub played : PlayedComplete (take count bytes) SourceFault before now
-
--- there was no start: nothing was read, what is kept stays, and one reply was written, which says why
-pub record StartFailed (source : Option (List ℕ)) (before : Told) (left : Option (List ℕ)) (status : ℕ) (now : Told) : Type 0 where
-  pub reply : Reply
-  pub why : (reply ≡ KeeperFault) ⊎ (reply ≡ OutOfMemory)
-  pub written : Wrote (reply_text reply) before now
+-- the office was not started: nothing was read, what is kept stays, and the count says why
+pub record IsUnstarted (why : StartFault) (before now : Devices) : Type 0 where
+  pub unread : now.input ≡ before.input
+  pub untried : now.source_faults ≡ before.source_faults
   pub kept : now.kept ≡ before.kept
-  pub unread : left ≡ source
-  pub exit : status ≡ status_met (is_keeper_fault (Some reply)) (is_out_of_memory (Some reply))
-  pub risen : HaveRisen (count_by is_keeper_fault (Some reply ∷ [])) before.faults now.faults
+  pub cause : why ≡ KeeperFault → HasRisen before.keeper_faults now.keeper_faults
+  pub not_empty : why ≡ NotEmpty → IfSome before.kept (λ kept. 0 < length kept.journal + length kept.rows)
+  pub counted : before.keeper_faults ≤ now.keeper_faults
+  pub most : now.keeper_faults ≤ before.keeper_faults + faults_in_start why
 
--- how a run of `play` over the bytes of its source went, by its status
-pub record PlayedAs (bytes : List ℕ) (before : Told) (left : Option (List ℕ)) (status : ℕ) (now : Told) : Type 0 where
-  pub input_ended : (status ≡ 0) ⊎ (status ≡ 5) ⊎ (status ≡ 7) → PlayedToEnd bytes before left status now ⊎ StartFailed (Some bytes) before left status now
-  pub bad_line : status ≡ 2 → PlayedToBadLine bytes before left now
-  pub source_fault : status ≡ 3 → PlayedToFault bytes before left now
-  pub too_long : status ≡ 9 → PlayedComplete (take max_script bytes) TooLong before now
+-- there was no start, and then a last text was written
+pub record EndedUnstarted (why : StartFault) (last : List ℕ) (before now : Devices) : Type 0 where
+  pub unstarted : IsUnstarted why before now
+  pub written : Wrote last before.written now.written
+
+-- the text that a failed sink was given last: the answer of the last line that was played, or the last line of a run
+abbrev pub IsGivenLast : List (Option Reply) → List (Option Reply) → List ℕ → Type 0
+IsGivenLast replies answered text =
+    ((reply : Option Reply) × (replies ≡ answered ++ reply ∷ []) × (text ≡ answer_text reply))
+    ⊎ ((ending : Ending) × (replies ≡ answered) × (text ≡ last_text ending))
+
+-- the sink failed at a play that was begun: the answers were written, but of the text that it was given last only a front
+pub record PlayedUnwritten (met : Met) (before now : Devices) : Type 0 where
+  pub taken : List ℕ
+  pub lines : List (List ℕ)
+  pub replies : List (Option Reply)
+  pub course : IsCourse taken lines replies met before now
+  pub answered : List (Option Reply)
+  pub text : List ℕ
+  pub given : IsGivenLast replies answered text
+  pub front : ℕ
+  pub within : front ≤ length text
+  pub written : Wrote (flat_map answer_text answered ++ take front text) before.written now.written
+
+-- the sink failed where there was no start
+pub record UnstartedUnwritten (before now : Devices) : Type 0 where
+  pub why : StartFault
+  pub unstarted : IsUnstarted why before now
+  pub written : WritesFront (last_text (NotStarted why)) before.written now.written
+
+-- the sink's count rose, in a play that was begun or where there was no start
+pub record SinkFailed (met : Met) (before now : Devices) : Type 0 where
+  pub cause : HasRisen before.sink_faults now.sink_faults
+  pub went : PlayedUnwritten met before now ⊎ UnstartedUnwritten before now
+
+-- how a play went, by its ending, and what was written of it: the text of its replies and a last text
+abbrev pub WentAs : Ending → List ℕ → Met → Devices → Devices → Type 0
+WentAs (NotStarted why) last met before now = EndedUnstarted why last before now
+WentAs SinkFault last met before now = SinkFailed met before now
+WentAs ending last met before now = PlayedAs ending last met before now
+
+-- how a run of `play` went: its play ended so, its last line was written, and the status is that ending's
+pub record RanAs (before : Devices) (status : ℕ) (now : Devices) : Type 0 where
+  pub ending : Ending
+  pub met : Met
+  pub went : WentAs ending (last_text ending) met before now
+  pub exit : status ≡ status_number (status_of ending met)
+
+-- no count of faults fell since
+pub record HaveNotFallen (before now : Devices) : Type 0 where
+  pub source : before.source_faults ≤ now.source_faults
+  pub sink : before.sink_faults ≤ now.sink_faults
+  pub keeper : before.keeper_faults ≤ now.keeper_faults
 
 -- a script of which every line can be read, and which has at most so many bytes
-pub record IsReadable (most : ℕ) (script : List ℕ) : Type 0 where
-  pub within : length script ≤ most
+pub record IsReadable (script : List ℕ) : Type 0 where
+  pub within : IsWithin script
   pub lines : AllByRecursion (λ line. IsOk (reading line)) (all_lines (cut_of script))
 
--- how often the source, the sink and the keeper failed
-pub record Faults : Type 0 where
-  pub source : ℕ
-  pub sink : ℕ
-  pub keeper : ℕ
+-- neither source nor sink nor keeper failed since
+pub record NoneFailed (before now : Devices) : Type 0 where
+  pub source : ¬ HasRisen before.source_faults now.source_faults
+  pub sink : ¬ HasRisen before.sink_faults now.sink_faults
+  pub keeper : ¬ HasRisen before.keeper_faults now.keeper_faults
 
-abbrev pub faults_of : ℕ → ℕ → ℕ → Faults
-faults_of source sink keeper = record { source = source; sink = sink; keeper = keeper }
-
--- none of the three failed since
-pub record NoneFailed (before now : Faults) : Type 0 where
-  pub source : ¬ HasRisen before.source now.source
-  pub sink : ¬ HasRisen before.sink now.sink
-  pub keeper : ¬ HasRisen before.keeper now.keeper
-
--- the source tells a readable script of at most so many bytes, the keeper tells that it keeps nothing, and neither the
--- source nor the sink nor the keeper failed since
-pub record GoesWell (most : ℕ) (source : Option (List ℕ)) (kept : Option Kept) (before now : Faults) : Type 0 where
+-- the source tells a readable script, the keeper tells that it keeps nothing, and none of the three failed since
+pub record GoesWell (before now : Devices) : Type 0 where
   pub script : List ℕ
-  pub tells : source ≡ Some script
-  pub readable : IsReadable most script
-  pub keeper_tells : IsSome kept
-  pub empty : KeptIsEmpty kept
+  pub tells : before.input ≡ Some script
+  pub readable : IsReadable script
+  pub keeper_tells : IsSome before.kept
+  pub empty : KeptIsEmpty before.kept
   pub none_failed : NoneFailed before now

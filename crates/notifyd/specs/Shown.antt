@@ -3,8 +3,8 @@ use Rattle.std.specs.Prelude.{◌≡◌, ℕ, ◌++◌, ◌∷◌, [], ◌==◌,
 use Rattle.std.specs.List.{list_any}
 use Rattle.notifyd.specs.Grammar.{reading}
 use Rattle.notifyd.specs.Reply.{reply_text}
-use Rattle.notifyd.specs.Play.{Mark, mark_of}
-use Rattle.notifyd.specs.Play.Mark.{Clean, NoMemory, KeeperFault}
+use Rattle.notifyd.specs.Mark.{Mark, mark_of}
+use Rattle.notifyd.specs.Mark.Mark.{Clean, NoMemory, KeeperFault}
 use Rattle.notifyd.specs.declared.line.Line.{Line}
 use Rattle.notifyd.specs.declared.line.Line.TheVariants as line
 use Rattle.notifyd.specs.declared.reply.Reply.{Reply}
@@ -14,9 +14,7 @@ use Rattle.notifyd.specs.declared.reply.Reply.TheVariants as reply
 abbrev pub has_output : Line → Bool
 has_output line.Nothing = false
 has_output (line.At moment) = false
-has_output (line.Asked request) = true
-has_output line.Mail = true
-has_output line.Audit = true
+has_output _ = true
 
 -- a line feed stands in the bytes
 abbrev pub has_line_feed : List ℕ → Bool

@@ -1,4 +1,4 @@
--- What a sink was given before it failed.
+-- What a sink was given.
 use Rattle.std.specs.Prelude.{◌≡◌, ℕ, ◌≤◌, List, ◌++◌, length, take, Option}
 use Rattle.std.specs.Option.{option_map}
 
@@ -7,3 +7,9 @@ pub record WritesFront (text : List ℕ) (before after : Option (List ℕ)) : Ty
   pub count : ℕ
   pub within : count ≤ length text
   pub written : after ≡ option_map (λ done. done ++ take count text) before
+
+-- the text is what was written since, where the sink tells, and then what waits
+pub record GoesOut (text : List ℕ) (before after : Option (List ℕ)) (waiting : List ℕ) : Type 0 where
+  pub front : List ℕ
+  pub all : text ≡ front ++ waiting
+  pub written : after ≡ option_map (λ done. done ++ front) before

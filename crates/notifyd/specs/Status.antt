@@ -1,34 +1,27 @@
 -- The status with which a run ends, and what is kept then.
-use Rattle.std.specs.Prelude.{◌≡◌, ℕ, ◌==◌, Bool, true, false, List, [], ◌∷◌, Option, IfSome, IsTrue, bytes_eq, codes}
-use Rattle.std.specs.List.{list_any}
+use Rattle.std.specs.Prelude.{◌≡◌, ℕ, Bool, false, List, [], ◌∷◌, Option, IfSome, bytes_eq, codes}
 use Rattle.keeper.specs.declared.keeper.Kept.{Kept}
 use Rattle.notice_ledger.specs.Conserved.{IsConserved}
 use Rattle.notice_ledger.specs.Rows.{rows}
+use Rattle.notifyd.specs.declared.status.Status.{Status}
+use Rattle.notifyd.specs.declared.status.Status.TheVariants.{Played, NoCommand, BadLine, SourceFault, SinkFault, KeeperFault, OutOfMemory, NotEmpty, TooLong}
 
 -- the words are the one command that there is
 abbrev pub is_play : List (List ℕ) → Bool
 is_play (word ∷ []) = bytes_eq word (codes "play")
 is_play _ = false
 
--- one of these numbers
-abbrev pub IsAmong : List ℕ → ℕ → Type 0
-IsAmong numbers status = IsTrue (list_any (λ number. number == status) numbers)
-
--- the statuses of a run: the input was played to its end, the words are no command, a line is bad, the source failed,
--- the sink failed, the keeper failed, memory was wanted, what is kept was not empty, the script is too long
-abbrev pub statuses : List ℕ
-statuses = 0 ∷ 1 ∷ 2 ∷ 3 ∷ 4 ∷ 5 ∷ 7 ∷ 8 ∷ 9 ∷ []
-
--- the status at the end of the input, where a keeper's fault was met or not, and want of memory or not
-abbrev pub status_met : Bool → Bool → ℕ
-status_met true out_of_memory = 5
-status_met false true = 7
-status_met false false = 0
-
--- the statuses of a play, which comes only after a start; the sink's and the keeper's faults and want of memory may
--- come at the start too
-abbrev pub play_statuses : List ℕ
-play_statuses = 0 ∷ 2 ∷ 3 ∷ 9 ∷ []
+-- the number of a status
+abbrev pub status_number : Status → ℕ
+status_number Played = 0
+status_number NoCommand = 1
+status_number BadLine = 2
+status_number SourceFault = 3
+status_number SinkFault = 4
+status_number KeeperFault = 5
+status_number OutOfMemory = 7
+status_number NotEmpty = 8
+status_number TooLong = 9
 
 -- nothing is kept, where the keeper tells
 abbrev pub KeptIsEmpty : Option Kept → Type 0

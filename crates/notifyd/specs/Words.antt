@@ -4,7 +4,8 @@ use Rattle.chat_model.specs.declared.counts.Counts.{Counts}
 use Rattle.chat_model.specs.declared.request.Answer.{Answer}
 use Rattle.chat_model.specs.declared.request.Answer.TheVariants.{User, Group, Channel, Sent, Done}
 use Rattle.chat_model.specs.declared.request.Refusal.{Refusal}
-use Rattle.chat_model.specs.declared.request.Refusal.TheVariants.{NoUser, NoChannel, NoGroup, Exists, NotSubscribed, EmptyText, TextTooLong, TopicTooLong, TooMany, NameTooLong, BadName}
+use Rattle.chat_model.specs.declared.request.Refusal.TheVariants.{TooMany}
+pub use Rattle.chat_model.specs.Refusals.{refusal_number}
 use Rattle.office.specs.declared.answer.MailAnswer.{MailAnswer}
 use Rattle.office.specs.declared.answer.MailAnswer.TheVariants.{Mailed, NotDue}
 
@@ -40,20 +41,6 @@ abbrev pub count_words : Counts → List ℕ
 count_words counts =
     codes "audit " ++ account_words counts ++ codes " entries=" ++ decimal counts.entries
     ++ codes " waiting=" ++ decimal counts.waiting ++ codes " written=" ++ decimal counts.written
-
--- the number of a refusal
-abbrev pub refusal_number : Refusal → ℕ
-refusal_number NoUser = 10
-refusal_number NoChannel = 11
-refusal_number NoGroup = 13
-refusal_number Exists = 14
-refusal_number NotSubscribed = 16
-refusal_number EmptyText = 17
-refusal_number TextTooLong = 18
-refusal_number TopicTooLong = 19
-refusal_number (TooMany limit) = 23
-refusal_number NameTooLong = 24
-refusal_number BadName = 25
 
 -- what stands behind the number of a refusal: the limit that a list was too long for
 abbrev pub limit_words : Refusal → List ℕ

@@ -1,24 +1,22 @@
 //! The command line, and what it runs.
-ghost use Rattle.std.specs.Prelude.{◌≡◌, ◌≢◌, ℕ, ◌+◌, ◌<◌, ◌≤◌, ◌⊎◌, ◌++◌, List, [], length, true, false, IfOk, IfErr, IfSome, OnOk, OnErr, vec_len};
-ghost use Rattle.std.specs.Vec.{vec_capacity};
+ghost use Rattle.std.specs.Prelude.{◌≡◌, ◌≤◌, ◌⊎◌, ◌++◌, [], true, false, OnOk, OnErr, is_some};
 ghost use Rattle.chat_model.specs.Counts.{HasRisen};
 ghost use Rattle.std.specs.Option.{option_map};
-ghost use Rattle.notifyd.specs.Reply.{reply_text};
+ghost use Rattle.notifyd.specs.Sink.{WritesFront};
 ghost use Rattle.notifyd.specs.LastLine.{last_line_text};
-ghost use Rattle.notifyd.specs.Cut.{GaveMore};
-ghost use Rattle.notifyd.specs.Play.{world};
-ghost use Rattle.notifyd.specs.Run.{told_by, faults_of, started, PlayedAs, GoesWell};
-ghost use Rattle.notifyd.specs.Status.{is_play, IsAmong, statuses, status_met, play_statuses, KeptIsEmpty, KeptIsConsistent, KeptIsConserved};
+ghost use Rattle.notifyd.specs.Ending.{last_text, status_met, status_of};
+ghost use Rattle.notifyd.specs.Run.{devices, WentAs, RanAs, HaveNotFallen, GoesWell};
+ghost use Rattle.notifyd.specs.Status.{is_play, status_number, KeptIsEmpty, KeptIsConsistent, KeptIsConserved};
 
+use crate::ending::{Ended, Ending, Met};
 use crate::last_line::{LastLine, write_last_line};
-use crate::line::MAX_LINE;
-use crate::play::{Met, Play, Stop};
+use crate::play::Play;
 use crate::reply::{Reply, write_reply};
-use crate::script::{Ending, MAX_SCRIPT, play_source};
+use crate::status::Status;
 use crate::{Sink, Source, Spool};
-use chat_model::{Failed, Moment, Text};
+use chat_model::{Failed, Text};
 use keeper::Keeper;
-use office::{Office, StartFault};
+use office::StartFault;
 use std::alloc::Global;
 
 /// What a run left: its exit status, and the keeper.
@@ -37,165 +35,105 @@ fn is_play(words: &[Text]) -> bool
     }
 }
 
-// The status after a last line: its own, or 4 where the line could not be written.
-fn status_after(written: Result<(), Failed>, status: u8) -> u8
-    ensures ok { OnOk written (result ≡ status) }
-    ensures err { OnErr written (result ≡ 4) }
-{
-    match written {
-        Ok(()) => status,
-        Err(_) => 4,
-    }
-}
-
-// Writes the line of a start that failed, and says the status.
-fn end_start<O: Sink>(out: &mut O, fault: StartFault) -> u8
-    ensures among { (result ≡ 4) ⊎ (result ≡ 5) ⊎ (result ≡ 7) ⊎ (result ≡ 8) }
-    ensures keeper { result ≡ 5 → fault ≡ StartFault.KeeperFault }
-    ensures not_empty { result ≡ 8 → fault ≡ StartFault.NotEmpty }
-    ensures keeper_text { result ≡ 5 →
-        O.written out.new ≡ option_map (λ done. done ++ reply_text Reply.KeeperFault) (O.written out.old) }
-    ensures memory_text { result ≡ 7 →
-        O.written out.new ≡ option_map (λ done. done ++ reply_text Reply.OutOfMemory) (O.written out.old) }
-    ensures not_empty_text { result ≡ 8 →
-        O.written out.new ≡ option_map (λ done. done ++ last_line_text LastLine.NotEmpty) (O.written out.old) }
-    ensures cause { result ≡ 4 → HasRisen (O.faults out.old) (O.faults out.new) }
-    ensures count { O.faults out.old ≤ O.faults out.new }
-{
-    match fault {
-        StartFault::KeeperFault => status_after(write_reply(out, &Reply::KeeperFault), 5),
-        StartFault::OutOfMemory => status_after(write_reply(out, &Reply::OutOfMemory), 7),
-        StartFault::NotEmpty => status_after(write_last_line(out, &LastLine::NotEmpty), 8),
-    }
-}
-
-fn status_of(met: Met) -> u8
-    ensures is { result ≡ status_met met.keeper_fault met.out_of_memory }
-    ensures among { (result ≡ 0) ⊎ (result ≡ 5) ⊎ (result ≡ 7) }
-    ensures keeper { result ≡ 5 → met.keeper_fault ≡ true }
-{
-    if met.keeper_fault {
-        5
-    } else if met.out_of_memory {
-        7
-    } else {
-        0
-    }
-}
-
-// Writes the last line of a play that ended so, where it has one, and says the status.
-fn end_play<O: Sink>(out: &mut O, ending: Ending, met: Met) -> u8
-    ensures among { IsAmong statuses result × (result ≢ 1) × (result ≢ 8) }
-    ensures ended { result ≡ 0 → ending ≡ Ending.InputEnded }
-    ensures whole { (result ≡ 0) ⊎ (result ≡ 5) ⊎ (result ≡ 7) → (ending ≡ Ending.InputEnded)
-        × (result ≡ status_met met.keeper_fault met.out_of_memory) × (O.written out.new ≡ O.written out.old) }
-    ensures bad { result ≡ 2 → (number : ℕ) × (column : ℕ) × (ending ≡ Ending.Stopped (Stop.BadLine number column)) }
-    ensures bad_text { (number column : ℕ) → result ≡ 2 → ending ≡ Ending.Stopped (Stop.BadLine number column) →
-        O.written out.new ≡ option_map (λ done. done ++ last_line_text (LastLine.BadLine number column)) (O.written out.old) }
-    ensures source { result ≡ 3 → ending ≡ Ending.SourceFault }
-    ensures source_text { result ≡ 3 →
-        O.written out.new ≡ option_map (λ done. done ++ last_line_text LastLine.SourceFault) (O.written out.old) }
-    ensures cause { result ≡ 4 → (ending ≡ Ending.Stopped Stop.SinkFault) ⊎ HasRisen (O.faults out.old) (O.faults out.new) }
-    ensures keeper { result ≡ 5 → met.keeper_fault ≡ true }
-    ensures long { result ≡ 9 → ending ≡ Ending.TooLong }
-    ensures long_text { result ≡ 9 →
-        O.written out.new ≡ option_map (λ done. done ++ last_line_text LastLine.TooLong) (O.written out.old) }
+// Writes the last line of a play that ended so, where it has one.
+fn write_last<O: Sink>(out: &mut O, ending: &Ending) -> Result<(), Failed>
+    ensures ok { OnOk result (O.written out.new ≡ option_map (λ done. done ++ last_text ending.now) (O.written out.old)) }
+    ensures front { OnErr result (WritesFront (last_text ending.now) (O.written out.old) (O.written out.new)) }
+    ensures cause { OnErr result (HasRisen (O.faults out.old) (O.faults out.new)) }
     ensures count { O.faults out.old ≤ O.faults out.new }
 {
     match ending {
-        Ending::InputEnded => status_of(met),
-        Ending::Stopped(Stop::BadLine { line, column }) => {
-            status_after(write_last_line(out, &LastLine::BadLine { line, column }), 2)
+        Ending::InputEnded | Ending::SinkFault => Ok(()),
+        Ending::BadLine { line, column } => {
+            let last = LastLine::BadLine {
+                line: *line,
+                column: *column,
+            };
+            write_last_line(out, &last)
         }
-        Ending::Stopped(Stop::SinkFault) => 4,
-        Ending::SourceFault => status_after(write_last_line(out, &LastLine::SourceFault), 3),
-        Ending::TooLong => status_after(write_last_line(out, &LastLine::TooLong), 9),
+        Ending::SourceFault => write_last_line(out, &LastLine::SourceFault),
+        Ending::TooLong => write_last_line(out, &LastLine::TooLong),
+        Ending::NotStarted(StartFault::KeeperFault) => write_reply(out, &Reply::KeeperFault),
+        Ending::NotStarted(StartFault::OutOfMemory) => write_reply(out, &Reply::OutOfMemory),
+        Ending::NotStarted(StartFault::NotEmpty) => write_last_line(out, &LastLine::NotEmpty),
     }
 }
 
-// Takes the room for the longest line, and starts the office at moment 0.
-fn start<K: Keeper>(alloc: Global, keeper: K) -> Result<(Play<K>, Vec<u8>), (StartFault, K)>
-    ensures fresh { IfOk result (λ begun. (begun.0.line ≡ 0) × (begun.0.met.keeper_fault ≡ false)
-        × (begun.0.met.out_of_memory ≡ false)) }
-    ensures begun { IfOk result (λ begun. world begun.0.office.journal begun.0.clock ≡ started) }
-    ensures room { IfOk result (λ begun. (begun.1.items ≡ []) × (MAX_LINE < vec_capacity begun.1)) }
-    ensures was_empty { OnOk result (KeptIsEmpty (K.kept keeper)) }
-    ensures counted { IfOk result (λ begun. K.faults keeper ≤ K.faults begun.0.office.keeper) }
-    ensures same { IfErr result (λ e. K.kept e.1 ≡ K.kept keeper) }
-    ensures fault { IfErr result (λ e. e.0 ≡ StartFault.KeeperFault → HasRisen (K.faults keeper) (K.faults e.1)) }
-    ensures not_empty { IfErr result (λ e. e.0 ≡ StartFault.NotEmpty →
-        IfSome (K.kept keeper) (λ kept. 0 < length kept.journal + length kept.rows)) }
-    ensures counted_err { IfErr result (λ e. K.faults keeper ≤ K.faults e.1) }
+fn status_met(met: Met) -> Status
+    ensures { result ≡ status_met met.keeper_fault met.out_of_memory }
 {
-    let Ok(line) = Vec::with_capacity(alloc, MAX_LINE + 1) else {
-        return Err((StartFault::OutOfMemory, keeper));
-    };
-    let Some(first) = Moment::new(0) else {
-        unreachable!();
-    };
-    match Office::start(alloc, keeper, first) {
-        Ok(office) => {
-            let play = Play {
-                office,
-                clock: first,
-                line: 0,
-                met: Met {
-                    keeper_fault: false,
-                    out_of_memory: false,
-                },
-            };
-            Ok((play, line))
-        }
-        Err(fault) => Err(fault),
+    if met.keeper_fault {
+        Status::KeeperFault
+    } else if met.out_of_memory {
+        Status::OutOfMemory
+    } else {
+        Status::Played
+    }
+}
+
+// The status of a run whose play ended so.
+fn status_of(ending: &Ending, met: Met) -> Status
+    ensures { result ≡ status_of ending.now met }
+{
+    match ending {
+        Ending::InputEnded => status_met(met),
+        Ending::BadLine { .. } => Status::BadLine,
+        Ending::SourceFault => Status::SourceFault,
+        Ending::TooLong => Status::TooLong,
+        Ending::SinkFault => Status::SinkFault,
+        Ending::NotStarted(StartFault::KeeperFault) => Status::KeeperFault,
+        Ending::NotStarted(StartFault::OutOfMemory) => Status::OutOfMemory,
+        Ending::NotStarted(StartFault::NotEmpty) => Status::NotEmpty,
     }
 }
 
 // Starts the office and plays the script. Wherever it ends, the office is closed.
+fn play<S: Source, O: Sink, K: Keeper>(
+    alloc: Global,
+    source: &mut S,
+    out: &mut O,
+    keeper: K,
+) -> Ended<K>
+    ensures went { WentAs result.ending [] result.met
+        (devices (S.remaining source.old) (O.written out.old) (K.kept keeper) (S.faults source.old) (O.faults out.old) (K.faults keeper))
+        (devices (S.remaining source.new) (O.written out.new) (K.kept result.keeper) (S.faults source.new) (O.faults out.new) (K.faults result.keeper)) }
+    ensures counted { HaveNotFallen
+        (devices (S.remaining source.old) (O.written out.old) (K.kept keeper) (S.faults source.old) (O.faults out.old) (K.faults keeper))
+        (devices (S.remaining source.new) (O.written out.new) (K.kept result.keeper) (S.faults source.new) (O.faults out.new) (K.faults result.keeper)) }
+{
+    match Play::start(alloc, keeper) {
+        Ok(play) => play.read_all(source, out),
+        Err((fault, keeper)) => Ended {
+            ending: Ending::NotStarted(fault),
+            met: Met::nothing(),
+            keeper,
+        },
+    }
+}
+
+// Plays the script, writes the last line, and says the status.
 fn play_script<S: Source, O: Sink, K: Keeper>(
     alloc: Global,
     source: &mut S,
     out: &mut O,
     keeper: K,
-) -> Ran<K>
-    ensures status { IsAmong statuses result.status × (result.status ≢ 1) }
-    ensures ended { result.status ≡ 0 → IfSome (S.remaining source.new) (λ bytes. bytes ≡ []) }
-    ensures played { IfSome (S.remaining source.old) (λ bytes.
-        PlayedAs bytes (told_by (O.written out.old) (K.kept keeper) (K.faults keeper)) (S.remaining source.new)
-        result.status (told_by (O.written out.new) (K.kept result.keeper) (K.faults result.keeper))) }
-    ensures source_fault { result.status ≡ 3 → HasRisen (S.faults source.old) (S.faults source.new) }
-    ensures sink_fault { result.status ≡ 4 → HasRisen (O.faults out.old) (O.faults out.new) }
-    ensures keeper_fault { result.status ≡ 5 → HasRisen (K.faults keeper) (K.faults result.keeper) }
-    ensures not_empty { result.status ≡ 8 → IfSome (K.kept keeper) (λ kept. 0 < length kept.journal + length kept.rows) }
-    ensures refused { result.status ≡ 8 → (K.kept result.keeper ≡ K.kept keeper)
-        × (O.written out.new ≡ option_map (λ done. done ++ last_line_text LastLine.NotEmpty) (O.written out.old)) }
-    ensures too_long { result.status ≡ 9 → GaveMore MAX_SCRIPT (S.remaining source.old) (S.remaining source.new) }
-    ensures was_empty { IsAmong play_statuses result.status → KeptIsEmpty (K.kept keeper) }
-    ensures consistent { KeptIsConsistent (K.kept keeper) → KeptIsConsistent (K.kept result.keeper) }
-    ensures conserved { KeptIsEmpty (K.kept keeper) ⊎ KeptIsConserved (K.kept keeper) → KeptIsConserved (K.kept result.keeper) }
-    ensures source_count { S.faults source.old ≤ S.faults source.new }
-    ensures sink_count { O.faults out.old ≤ O.faults out.new }
-    ensures keeper_count { K.faults keeper ≤ K.faults result.keeper }
+) -> (Status, K)
+    ensures ran { RanAs
+        (devices (S.remaining source.old) (O.written out.old) (K.kept keeper) (S.faults source.old) (O.faults out.old) (K.faults keeper))
+        (status_number result.0)
+        (devices (S.remaining source.new) (O.written out.new) (K.kept result.1) (S.faults source.new) (O.faults out.new) (K.faults result.1)) }
+    ensures counted { HaveNotFallen
+        (devices (S.remaining source.old) (O.written out.old) (K.kept keeper) (S.faults source.old) (O.faults out.old) (K.faults keeper))
+        (devices (S.remaining source.new) (O.written out.new) (K.kept result.1) (S.faults source.new) (O.faults out.new) (K.faults result.1)) }
 {
-    match start(alloc, keeper) {
-        Ok((play, line)) => {
-            let mut play = play;
-            let mut line = line;
-            let ending = play_source(&mut play, alloc, &mut line, source, out);
-            let Play {
-                office,
-                clock: _,
-                line: _,
-                met,
-            } = play;
-            Ran {
-                status: end_play(out, ending, met),
-                keeper: office.close(),
-            }
-        }
-        Err((fault, keeper)) => Ran {
-            status: end_start(out, fault),
-            keeper,
-        },
+    let Ended {
+        ending,
+        met,
+        keeper,
+    } = play(alloc, source, out, keeper);
+    match write_last(out, &ending) {
+        Ok(()) => (status_of(&ending, met), keeper),
+        Err(_) => (Status::SinkFault, keeper),
     }
 }
 
@@ -208,38 +146,41 @@ pub fn run<S: Source, O: Sink, K: Keeper, P: Spool>(
     keeper: K,
     _spool: &mut P,
 ) -> Ran<K>
-    ensures status { IsAmong statuses result.status }
     ensures command { result.status ≡ 1 → is_play words.now ≡ false }
     ensures usage { result.status ≡ 1 →
         O.written out.new ≡ option_map (λ done. done ++ last_line_text LastLine.Usage) (O.written out.old) }
-    ensures no_command { is_play words.now ≡ false → (result.keeper ≡ keeper) × ((result.status ≡ 1) ⊎ (result.status ≡ 4)) }
+    ensures no_command { is_play words.now ≡ false → (result.keeper ≡ keeper) × ((result.status ≡ 1)
+        ⊎ ((result.status ≡ 4) × HasRisen (O.faults out.old) (O.faults out.new))) }
     ensures unread { is_play words.now ≡ false → source.new ≡ source.old }
     ensures no_file { _spool.new ≡ _spool.old }
-    ensures ended { result.status ≡ 0 → IfSome (S.remaining source.new) (λ bytes. bytes ≡ []) }
-    ensures played { IfSome (S.remaining source.old) (λ bytes.
-        PlayedAs bytes (told_by (O.written out.old) (K.kept keeper) (K.faults keeper)) (S.remaining source.new)
-        result.status (told_by (O.written out.new) (K.kept result.keeper) (K.faults result.keeper))) }
-    ensures source_fault { result.status ≡ 3 → HasRisen (S.faults source.old) (S.faults source.new) }
-    ensures sink_fault { result.status ≡ 4 → HasRisen (O.faults out.old) (O.faults out.new) }
-    ensures keeper_fault { result.status ≡ 5 → HasRisen (K.faults keeper) (K.faults result.keeper) }
-    ensures not_empty { result.status ≡ 8 → IfSome (K.kept keeper) (λ kept. 0 < length kept.journal + length kept.rows) }
-    ensures refused { result.status ≡ 8 → (K.kept result.keeper ≡ K.kept keeper)
-        × (O.written out.new ≡ option_map (λ done. done ++ last_line_text LastLine.NotEmpty) (O.written out.old)) }
-    ensures too_long { result.status ≡ 9 → GaveMore MAX_SCRIPT (S.remaining source.old) (S.remaining source.new) }
-    ensures complete { is_play words.now ≡ true → GoesWell MAX_SCRIPT (S.remaining source.old) (K.kept keeper)
-        (faults_of (S.faults source.old) (O.faults out.old) (K.faults keeper))
-        (faults_of (S.faults source.new) (O.faults out.new) (K.faults result.keeper)) →
+    ensures ran { is_play words.now ≡ true → RanAs
+        (devices (S.remaining source.old) (O.written out.old) (K.kept keeper) (S.faults source.old) (O.faults out.old) (K.faults keeper))
+        result.status
+        (devices (S.remaining source.new) (O.written out.new) (K.kept result.keeper) (S.faults source.new) (O.faults out.new) (K.faults result.keeper)) }
+    ensures counted { HaveNotFallen
+        (devices (S.remaining source.old) (O.written out.old) (K.kept keeper) (S.faults source.old) (O.faults out.old) (K.faults keeper))
+        (devices (S.remaining source.new) (O.written out.new) (K.kept result.keeper) (S.faults source.new) (O.faults out.new) (K.faults result.keeper)) }
+    ensures complete { is_play words.now ≡ true → GoesWell
+        (devices (S.remaining source.old) (O.written out.old) (K.kept keeper) (S.faults source.old) (O.faults out.old) (K.faults keeper))
+        (devices (S.remaining source.new) (O.written out.new) (K.kept result.keeper) (S.faults source.new) (O.faults out.new) (K.faults result.keeper)) →
         (result.status ≡ 0) ⊎ (result.status ≡ 7) }
-    ensures was_empty { IsAmong play_statuses result.status → KeptIsEmpty (K.kept keeper) }
+    ensures told { is_some (K.kept result.keeper) ≡ is_some (K.kept keeper) }
     ensures consistent { KeptIsConsistent (K.kept keeper) → KeptIsConsistent (K.kept result.keeper) }
     ensures conserved { KeptIsEmpty (K.kept keeper) ⊎ KeptIsConserved (K.kept keeper) → KeptIsConserved (K.kept result.keeper) }
-    ensures source_count { S.faults source.old ≤ S.faults source.new }
-    ensures sink_count { O.faults out.old ≤ O.faults out.new }
-    ensures keeper_count { K.faults keeper ≤ K.faults result.keeper }
 {
     if !is_play(words) {
-        let status = status_after(write_last_line(out, &LastLine::Usage), 1);
-        return Ran { status, keeper };
+        let status = match write_last_line(out, &LastLine::Usage) {
+            Ok(()) => Status::NoCommand,
+            Err(_) => Status::SinkFault,
+        };
+        return Ran {
+            status: status.number(),
+            keeper,
+        };
     }
-    play_script(alloc, source, out, keeper)
+    let (status, keeper) = play_script(alloc, source, out, keeper);
+    Ran {
+        status: status.number(),
+        keeper,
+    }
 }

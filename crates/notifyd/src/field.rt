@@ -1,18 +1,10 @@
-//! The fields of a line. A place in a line is the number of bytes before it.
-ghost use Rattle.std.specs.Prelude.{◌≡◌, ℕ, ◌+◌, ◌*◌, ◌^◌, ◌<◌, ◌≤◌, ◌==◌, not, length, drop, slice_index, slice_range, IfOk, IfErr, IfSome, MatchOption, MatchResult, IsUtf8, Ok, Err, Some, None, option_and_then};
+//! The forms that a field may have, and where one begins and ends. A place in a line is the number of bytes before it.
+ghost use Rattle.std.specs.Prelude.{◌≡◌, ◌+◌, ◌^◌, ◌<◌, ◌≤◌, ◌==◌, not, length, drop, slice_index, slice_range, IfSome, MatchOption, IsUtf8, Some, None, option_and_then};
 ghost use Rattle.chat_model.specs.Number.{number_of};
-ghost use Rattle.notifyd.specs.Quoted.{IsTextAt, text_at};
-ghost use Rattle.notifyd.specs.Field.{column_of, is_space, is_no_space, run_end, field_start, word_end, word_at, word_field, moment_of, switch_of, quoted_len, unescaped, is_escape, begins_escape, ends_field, string_len, string_text, string_field, line_end};
+ghost use Rattle.notifyd.specs.Field.{column_of, is_space, is_no_space, run_end, field_start, word_end, moment_of, switch_of, quoted_len, is_escape, begins_escape, ends_field, string_len};
 
 use crate::line::{Column, MAX_LINE};
 use chat_model::{Moment, number_of};
-
-/// Where the bytes of a string field stand, between its quotes.
-#[derive(Clone, Copy, Debug, PartialEq, Eq)]
-pub struct Quoted {
-    pub from: usize,
-    pub to: usize,
-}
 
 /// The column of a place.
 pub fn column_of(place: usize) -> Column
@@ -50,74 +42,17 @@ pub fn word_end(line: &[u8], start: usize) -> usize
     end
 }
 
-/// The first word of a line, and the places where it begins and ends.
-pub fn first_word(line: &[u8]) -> (usize, usize)
-    ensures start { result.0 ≡ field_start line.now 0 }
-    ensures end { result.1 ≡ word_end line.now result.0 }
-    ensures order { result.0 ≤ result.1 }
-    ensures within { result.1 ≤ length line.now }
-{
-    let start = field_start(line, 0);
-    (start, word_end(line, start))
-}
-
-/// A number, and the place behind it.
-#[tactic(auto, unfolding(crate::specs::Field::word_field))]
-pub fn number_field(line: &[u8], place: usize) -> Result<(u64, usize), Column>
-    requires small { length line.now ≤ MAX_LINE }
-    requires place { place ≤ length line.now }
-    ensures value { result ≡ word_field number_of line.now place }
-    ensures within { IfOk result (λ read. read.1 ≤ length line.now) }
-{
-    let start = field_start(line, place);
-    let end = word_end(line, start);
-    match number_of(&line[start..end]) {
-        Some(value) => Ok((value, end)),
-        None => Err(column_of(start)),
-    }
-}
-
-/// A moment, and the place behind it.
-#[tactic(auto, unfolding(crate::specs::Field::word_field))]
-pub fn moment_field(line: &[u8], place: usize) -> Result<(Moment, usize), Column>
-    requires small { length line.now ≤ MAX_LINE }
-    requires place { place ≤ length line.now }
-    ensures value { result ≡ word_field moment_of line.now place }
-    ensures within { IfOk result (λ read. read.1 ≤ length line.now) }
-{
-    let start = field_start(line, place);
-    let end = word_end(line, start);
-    match moment_of(&line[start..end]) {
-        Some(value) => Ok((value, end)),
-        None => Err(column_of(start)),
-    }
-}
-
-/// `on` or `off`, and the place behind it.
-#[tactic(auto, unfolding(crate::specs::Field::word_field))]
-pub fn switch_field(line: &[u8], place: usize) -> Result<(bool, usize), Column>
-    requires small { length line.now ≤ MAX_LINE }
-    requires place { place ≤ length line.now }
-    ensures value { result ≡ word_field switch_of line.now place }
-    ensures within { IfOk result (λ read. read.1 ≤ length line.now) }
-{
-    let start = field_start(line, place);
-    let end = word_end(line, start);
-    match switch_of(&line[start..end]) {
-        Some(value) => Ok((value, end)),
-        None => Err(column_of(start)),
-    }
-}
-
+/// A moment: a number below 2^37.
 #[tactic(auto, unfolding(crate::specs::Field::moment_of))]
-fn moment_of(word: &[u8]) -> Option<Moment>
+pub fn moment_of(word: &[u8]) -> Option<Moment>
     ensures { result ≡ moment_of word.now }
 {
     Moment::new(number_of(word)?)
 }
 
+/// `on` or `off`.
 #[tactic(auto, unfolding(crate::specs::Field::switch_of))]
-fn switch_of(word: &[u8]) -> Option<bool>
+pub fn switch_of(word: &[u8]) -> Option<bool>
     ensures { result ≡ switch_of word.now }
 {
     if word == b"on".as_slice() {
@@ -129,35 +64,13 @@ fn switch_of(word: &[u8]) -> Option<bool>
     None
 }
 
-/// A string field, and the place behind it.
-#[tactic(auto, unfolding(crate::specs::Field::string_field))]
-pub fn string_field(line: &[u8], place: usize) -> Result<(Quoted, usize), Column>
-    requires small { length line.now ≤ MAX_LINE }
-    requires place { place ≤ length line.now }
-    ensures ok { IfOk result (λ read. string_field line.now place ≡ Ok (text_at line.now read.0, read.1)) }
-    ensures err { IfErr result (λ column. string_field line.now place ≡ Err column) }
-    ensures within { IfOk result (λ read. read.1 ≤ length line.now) }
-    ensures sound { IfOk result (λ read. IsTextAt line.now read.0) }
-{
-    let start = field_start(line, place);
-    match string_len(line, start) {
-        Some(len) => Ok((
-            Quoted {
-                from: start + 1,
-                to: start + 1 + len,
-            },
-            start + len + 2,
-        )),
-        None => Err(column_of(start)),
-    }
-}
-
+/// How many bytes stand between the quotes of the string field that begins here.
 #[tactic(auto, unfolding(crate::specs::Field::string_len))]
-fn string_len(line: &[u8], start: usize) -> Option<usize>
+pub fn string_len(line: &[u8], start: usize) -> Option<usize>
     requires { start ≤ length line.now }
     ensures len { result ≡ string_len line.now start }
     ensures within { IfSome result (λ len. start + len + 2 ≤ length line.now) }
-    ensures sound { IfSome result (λ len. IsTextAt line.now (record { from = start + 1; to = start + 1 + len })) }
+    ensures utf8 { IfSome result (λ len. IsUtf8 line.now → IsUtf8 (slice_range line.now (start + 1) (start + 1 + len))) }
 {
     if start == line.len() || line[start] != b'"' {
         return None;
@@ -204,19 +117,4 @@ fn is_escape(byte: u8) -> bool
     ensures { result ≡ is_escape byte }
 {
     byte == b'"' || byte == b'\\' || byte == b'n'
-}
-
-/// Whether no field is left behind this place.
-#[tactic(auto, unfolding(crate::specs::Field::line_end))]
-pub fn line_end(line: &[u8], place: usize) -> Result<(), Column>
-    requires small { length line.now ≤ MAX_LINE }
-    requires place { place ≤ length line.now }
-    ensures { result ≡ line_end line.now place }
-{
-    let start = field_start(line, place);
-    if start == line.len() {
-        Ok(())
-    } else {
-        Err(column_of(start))
-    }
 }

@@ -1,13 +1,13 @@
 //! The line that ends a run early, and its text.
-ghost use Rattle.std.specs.Prelude.{◌≡◌, ◌+◌, ◌≤◌, ◌++◌, length, OnOk, OnErr};
+ghost use Rattle.std.specs.Prelude.{◌≡◌, ◌≤◌, ◌++◌, OnOk, OnErr};
 ghost use Rattle.std.specs.Option.{option_map};
 ghost use Rattle.chat_model.specs.Counts.{HasRisen};
 ghost use Rattle.notifyd.specs.Sink.{WritesFront};
+ghost use Rattle.notifyd.specs.Words.{line_of};
 ghost use Rattle.notifyd.specs.LastLine.{last_line_text};
 
 use crate::Sink;
-use crate::print_line::{LineBuffer, push_number};
-use crate::sink::write_all;
+use crate::words::{Part, Words};
 use chat_model::Failed;
 
 /// The line that ends a run early.
@@ -33,27 +33,24 @@ pub fn write_last_line<O: Sink>(out: &mut O, last: &LastLine) -> Result<(), Fail
     ensures cause { OnErr result (HasRisen (O.faults out.old) (O.faults out.new)) }
     ensures count { O.faults out.old ≤ O.faults out.new }
 {
-    write_all(out, text_of(last).as_str().as_bytes())
+    last_words(last).write_line(out)
 }
 
-fn text_of(last: &LastLine) -> LineBuffer
-    ensures { result.bytes ≡ last_line_text last.now }
+fn last_words(last: &LastLine) -> Words<'_>
+    ensures { line_of result ≡ last_line_text last.now }
 {
-    let mut text = LineBuffer::new();
     match last {
-        LastLine::BadLine { line, column } => {
-            text.push_str("bad line ");
-            push_number(&mut text, *line);
-            text.push_str(" column ");
-            push_number(&mut text, *column);
-        }
-        LastLine::SourceFault => text.push_str("fault source"),
-        LastLine::TooLong => text.push_str("script too long"),
-        LastLine::NotEmpty => text.push_str("not empty"),
-        LastLine::Usage => text.push_str(
+        LastLine::BadLine { line, column } => Words::of(&[
+            Part::Word("bad line "),
+            Part::Number(*line),
+            Part::Word(" column "),
+            Part::Number(*column),
+        ]),
+        LastLine::SourceFault => Words::word("fault source"),
+        LastLine::TooLong => Words::word("script too long"),
+        LastLine::NotEmpty => Words::word("not empty"),
+        LastLine::Usage => Words::word(
             "usage: notifyd play [--config PATH] | audit [--config PATH] | sample N SEED",
         ),
     }
-    text.push_str("\n");
-    text
 }

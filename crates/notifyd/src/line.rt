@@ -3,10 +3,11 @@ ghost use Rattle.std.specs.Prelude.{◌≡◌, ◌≤◌, List, length, IfOk, If
 ghost use Rattle.std.specs.List.{list_all};
 ghost use Rattle.notifyd.specs.Field.{is_space};
 ghost use Rattle.notifyd.specs.Grammar.{reading, content_reading, body_of, content_of, ends_in, without_last, is_nothing};
-ghost use Rattle.notifyd.specs.Fault.{MatchesFault};
+ghost use Rattle.notifyd.specs.Fault.{MatchesFault, IsFaultOf};
 
 use crate::field::column_of;
-use crate::form::{make_line, read_form};
+use crate::fields::Fields;
+use crate::kinds::read_fields;
 use chat_model::{Moment, OutOfMemory, Request};
 use std::alloc::Global;
 
@@ -40,6 +41,17 @@ pub enum LineFault {
     OutOfMemory,
 }
 
+impl From<OutOfMemory> for LineFault {
+    ghost use Rattle.std.specs.Prelude.{◌≡◌};
+    ghost use Rattle.notifyd.specs.declared.line.LineFault.TheVariants as fault;
+
+    ghost from_gives = { λ _ made. made ≡ fault.OutOfMemory };
+
+    fn from(_: OutOfMemory) -> LineFault {
+        LineFault::OutOfMemory
+    }
+}
+
 /// Reads one line, given with its line feed where it has one; no line feed stands before the last byte.
 #[tactic(auto, unfolding(crate::specs::Grammar::reading))]
 pub fn read_line(alloc: Global, bytes: &[u8]) -> Result<Line, LineFault>
@@ -66,18 +78,12 @@ fn read_content(alloc: Global, line: &[u8]) -> Result<Line, LineFault>
     requires small { length line.now ≤ MAX_LINE }
     requires utf8 { IsUtf8 line.now }
     ensures ok { IfOk result (λ read. content_reading line.now ≡ Ok read) }
-    ensures err { IfErr result (MatchesFault (content_reading line.now)) }
+    ensures err { IfErr result (IsFaultOf (content_reading line.now)) }
 {
     if is_nothing(line) {
         return Ok(Line::Nothing);
     }
-    match read_form(line) {
-        Ok(form) => match make_line(alloc, line, form) {
-            Ok(made) => Ok(made),
-            Err(OutOfMemory) => Err(LineFault::OutOfMemory),
-        },
-        Err(column) => Err(LineFault::BadLine { column }),
-    }
+    read_fields(alloc, Fields::new(line))
 }
 
 #[tactic(auto, unfolding(crate::specs::Grammar::is_nothing))]

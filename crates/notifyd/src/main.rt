@@ -2,41 +2,46 @@
 #![tactic(auto)]
 
 mod command;
+mod ending;
 mod field;
-mod form;
+mod fields;
+mod kinds;
 mod last_line;
 mod line;
+mod line_buffer;
 mod listed;
 mod play;
-mod print_line;
+mod quoted;
 mod reply;
 mod script;
 mod sink;
 mod source;
 mod spool;
 mod standard;
+mod status;
+mod under_way;
+mod words;
 
-use chat_model::{List, OutOfMemory, Text};
+use chat_model::{OutOfMemory, Text};
 pub use command::{Ran, run};
-use keeper::MemoryKeeper;
 pub use last_line::{LastLine, write_last_line};
 pub use line::{Column, Line, LineFault, MAX_LINE, read_line};
 pub use reply::{Reply, print_reply, write_reply};
 pub use sink::{MemorySink, Sink, write_all};
 pub use source::{MemorySource, Source};
 pub use spool::{MemorySpool, PutFault, Spool};
-pub use standard::{StandardSink, StandardSource};
+pub use standard::{StandardSink, StandardSource, run_over};
 use std::process::ExitCode;
 use std::{env, io};
 
 #[cfg(test)]
 mod listed_tests;
 #[cfg(test)]
-mod play_tests;
-#[cfg(test)]
 mod request_tests;
 #[cfg(test)]
 mod run_tests;
+#[cfg(test)]
+mod standard_tests;
 #[cfg(test)]
 mod tests;
 
@@ -57,24 +62,14 @@ fn words_of(rt: &HostRuntime) -> Result<Vec<Text>, OutOfMemory> {
 }
 
 fn main(rt: HostRuntime) -> ExitCode {
-    let alloc = rt.alloc();
-    let mut out = StandardSink::new(io::writer(&rt));
-    let Ok(words) = words_of(&rt) else {
-        return match write_reply(&mut out, &Reply::OutOfMemory) {
-            Ok(()) => ExitCode::from(7),
-            Err(_) => ExitCode::from(4),
-        };
-    };
-    let mut source = StandardSource::new(rt.reader());
-    let mut spool = MemorySpool::new(alloc, List::new(alloc));
-    let keeper = MemoryKeeper::new(alloc, List::new(alloc));
-    let ran = run(
-        alloc,
-        words.as_slice(),
-        &mut source,
-        &mut out,
-        keeper,
-        &mut spool,
-    );
-    ExitCode::from(ran.status)
+    match words_of(&rt) {
+        Ok(words) => run_over(rt.alloc(), words.as_slice(), rt.reader(), io::writer(&rt)),
+        Err(OutOfMemory) => {
+            let mut out = StandardSink::new(io::writer(&rt));
+            match write_reply(&mut out, &Reply::OutOfMemory) {
+                Ok(()) => ExitCode::from(7),
+                Err(_) => ExitCode::from(4),
+            }
+        }
+    }
 }

@@ -1,49 +1,80 @@
 //! A play under way, and what one line does in it.
-ghost use Rattle.std.specs.Prelude.{◌≡◌, ℕ, ◌+◌, ◌-◌, ◌^◌, ◌<◌, ◌≤◌, ◌||◌, ◌++◌, true, max, IfOk, IfErr, OnOk, OnErr, Ok, Err, Some};
+ghost use Rattle.std.specs.Prelude.{◌≡◌, ◌+◌, ◌<◌, ◌≤◌, ◌==◌, ◌||◌, ◌++◌, ◌∷◌, [], length, false, max, cond, IfOk, IfErr, IfSome, OnOk, OnErr, Ok, Err, Some, is_some};
+ghost use Rattle.std.specs.Option.{option_map};
 ghost use Rattle.chat_model.specs.Counts.{HasRisen};
 ghost use Rattle.notifyd.specs.Grammar.{reading};
-ghost use Rattle.std.specs.Option.{option_map};
 ghost use Rattle.notifyd.specs.Sink.{WritesFront};
-ghost use Rattle.notifyd.specs.Play.{world, IsStep, PlaysLine, AnswersLine, IsCounted, standing, answer_text, is_keeper_fault, is_out_of_memory};
+ghost use Rattle.notifyd.specs.Cut.{completes};
+ghost use Rattle.notifyd.specs.World.{world, started};
+ghost use Rattle.notifyd.specs.Play.{IsStep, PlaysLine, answer_text, is_keeper_fault, is_out_of_memory};
+ghost use Rattle.notifyd.specs.Status.{KeptIsEmpty, KeptIsConserved};
+ghost use Rattle.notifyd.specs.Going.{Goes, standing};
+ghost use Rattle.office.specs.Office.{KeptStandsFor};
+ghost use Rattle.office.specs.Faults.{faults_in_start};
 
 use crate::Sink;
-use crate::line::{Column, Line, LineFault, read_line};
+use crate::ending::{Ended, Ending, Met};
+use crate::line::{Column, Line, LineFault, MAX_LINE, read_line};
 use crate::reply::{Reply, write_reply};
-use chat_model::{Moment, Request};
+use crate::under_way::UnderWay;
+use chat_model::{Failed, Moment, Request};
 use keeper::Keeper;
-use office::{AskFault, Office, StepFault};
+use office::{AskFault, Office, StartFault, StepFault};
 use std::alloc::Global;
+use std::marker::Model;
 
-/// What was met at the lines so far.
-#[derive(Clone, Copy, Debug)]
-pub struct Met {
-    pub keeper_fault: bool,
-    pub out_of_memory: bool,
-}
+/// The most bytes that a script may have.
+pub const MAX_SCRIPT: usize = 67_108_864;
 
 /// A play under way.
 #[derive(Drop)]
 pub struct Play<K: Keeper> {
-    pub office: Office<K>,
-    pub clock: Moment,
+    alloc: Global,
+    office: Office<K>,
+    clock: Moment,
+    met: Met,
     /// The number of the line played last, from 1.
-    pub line: u64,
-    pub met: Met,
+    number: u64,
+    /// How many bytes were taken from the source.
+    taken: usize,
+    line: UnderWay,
 }
 
-/// Why a line ends a play.
-#[derive(Clone, Copy, Debug, PartialEq, Eq)]
-pub enum Stop {
-    /// The line could not be read. Lines and bytes are counted from 1.
-    BadLine { line: u64, column: u64 },
-    /// The answer could not be written.
-    SinkFault,
+impl<K: Keeper> Model for Play<K> {
+    ghost use Rattle.std.specs.Prelude.{◌+◌, ◌≤◌, length};
+    ghost use Rattle.notifyd.specs.World.{world};
+    ghost use Rattle.notifyd.specs.Cut.{max_script};
+    ghost use Rattle.notifyd.specs.Playing.{Playing};
+
+    ghost Value = { Playing K };
+
+    ghost view = { λ p. record {
+      world = world p.office.journal p.clock;
+      met = p.met;
+      number = p.number;
+      taken = p.taken;
+      under_way = p.line;
+      keeper = p.office.keeper;
+    } };
+
+    ghost invariant = { λ p. (p.number + length p.line ≤ p.taken) × (p.taken ≤ max_script) };
+}
+
+/// How a play goes on.
+#[derive(Drop)]
+pub enum Next<K: Keeper> {
+    /// It goes on.
+    On(Play<K>),
+    /// It ended.
+    Ended(Ended<K>),
 }
 
 fn ask<K: Keeper>(office: &mut Office<K>, clock: Moment, request: Request) -> Reply
     ensures step { IsStep (world office.old.journal clock) (Line.Asked request) (Some result) (world office.new.journal clock) }
+    ensures told { is_some (K.kept office.new.keeper) ≡ is_some (K.kept office.old.keeper) }
     ensures cause { result ≡ Reply.KeeperFault → HasRisen (K.faults office.old.keeper) (K.faults office.new.keeper) }
     ensures count { K.faults office.old.keeper ≤ K.faults office.new.keeper }
+    ensures most { K.faults office.new.keeper ≤ K.faults office.old.keeper + cond (is_keeper_fault (Some result)) 1 0 }
 {
     match office.ask(request, clock) {
         Ok(answer) => Reply::Answer(answer),
@@ -55,8 +86,10 @@ fn ask<K: Keeper>(office: &mut Office<K>, clock: Moment, request: Request) -> Re
 
 fn mail<K: Keeper>(office: &mut Office<K>, clock: Moment) -> Reply
     ensures step { IsStep (world office.old.journal clock) Line.Mail (Some result) (world office.new.journal clock) }
+    ensures told { is_some (K.kept office.new.keeper) ≡ is_some (K.kept office.old.keeper) }
     ensures cause { result ≡ Reply.KeeperFault → HasRisen (K.faults office.old.keeper) (K.faults office.new.keeper) }
     ensures count { K.faults office.old.keeper ≤ K.faults office.new.keeper }
+    ensures most { K.faults office.new.keeper ≤ K.faults office.old.keeper + cond (is_keeper_fault (Some result)) 1 0 }
 {
     match office.mail_turn(clock) {
         Ok(answer) => Reply::Mail(answer),
@@ -71,114 +104,174 @@ fn later(clock: Moment, moment: Moment) -> Moment
     if clock < moment { moment } else { clock }
 }
 
-// What a line that was read is answered, where it has an answer.
-fn step<K: Keeper>(play: &mut Play<K>, line: Line) -> Option<Reply>
-    ensures step { IsStep (world play.old.office.journal play.old.clock) line result
-        (world play.new.office.journal play.new.clock) }
-    ensures cause { result ≡ Some Reply.KeeperFault →
-        HasRisen (K.faults play.old.office.keeper) (K.faults play.new.office.keeper) }
-    ensures count { K.faults play.old.office.keeper ≤ K.faults play.new.office.keeper }
-    ensures same { (play.new.line ≡ play.old.line) × (play.new.met ≡ play.old.met) }
-{
-    match line {
-        Line::Nothing => None,
-        Line::At(moment) => {
-            play.clock = later(play.clock, moment);
-            None
-        }
-        Line::Asked(request) => Some(ask(&mut play.office, play.clock, request)),
-        Line::Mail => Some(mail(&mut play.office, play.clock)),
-        Line::Audit => Some(Reply::Audit(play.office.audit())),
-    }
-}
-
-// What a line is answered, where it has an answer; else the column at which it is bad.
-fn answer<K: Keeper>(
-    play: &mut Play<K>,
-    alloc: Global,
-    bytes: &[u8],
-) -> Result<Option<Reply>, Column>
-    ensures played { IfOk result (λ reply. PlaysLine (world play.old.office.journal play.old.clock) bytes.now reply
-        (world play.new.office.journal play.new.clock)) }
-    ensures bad { IfErr result (λ column. reading bytes.now ≡ Err column) }
-    ensures cause { result ≡ Ok (Some Reply.KeeperFault) →
-        HasRisen (K.faults play.old.office.keeper) (K.faults play.new.office.keeper) }
-    ensures count { K.faults play.old.office.keeper ≤ K.faults play.new.office.keeper }
-    ensures same { (play.new.line ≡ play.old.line) × (play.new.met ≡ play.old.met) }
-    ensures stays { OnErr result (play.new ≡ play.old) }
-{
-    match read_line(alloc, bytes) {
-        Ok(line) => Ok(step(play, line)),
-        Err(LineFault::OutOfMemory) => Ok(Some(Reply::OutOfMemory)),
-        Err(LineFault::BadLine { column }) => Err(column),
-    }
-}
-
-impl Met {
-    // What is met after a line that was answered so.
-    fn with(self, reply: Option<Reply>) -> Met
-        ensures keeper_fault { result.keeper_fault ≡ (self.keeper_fault || is_keeper_fault reply) }
-        ensures out_of_memory { result.out_of_memory ≡ (self.out_of_memory || is_out_of_memory reply) }
-    {
-        match reply {
-            Some(Reply::KeeperFault) => Met {
-                keeper_fault: true,
-                out_of_memory: self.out_of_memory,
-            },
-            Some(Reply::OutOfMemory) => Met {
-                keeper_fault: self.keeper_fault,
-                out_of_memory: true,
-            },
-            _ => self,
-        }
-    }
-}
-
 // Writes the reply, where there is one.
-fn write_answer<O: Sink>(out: &mut O, reply: Option<Reply>) -> Result<(), Stop>
-    ensures ok { OnOk result (O.written out.new ≡ option_map (λ done. done ++ answer_text reply) (O.written out.old)) }
-    ensures front { OnErr result (WritesFront (answer_text reply) (O.written out.old) (O.written out.new)) }
-    ensures fault { OnErr result (result ≡ Err Stop.SinkFault) }
+fn write_answer<O: Sink>(out: &mut O, reply: &Option<Reply>) -> Result<(), Failed>
+    ensures ok { OnOk result (O.written out.new ≡ option_map (λ done. done ++ answer_text reply.now) (O.written out.old)) }
+    ensures front { OnErr result (WritesFront (answer_text reply.now) (O.written out.old) (O.written out.new)) }
     ensures cause { OnErr result (HasRisen (O.faults out.old) (O.faults out.new)) }
     ensures count { O.faults out.old ≤ O.faults out.new }
 {
-    let Some(reply) = reply else {
-        return Ok(());
-    };
-    match write_reply(out, &reply) {
-        Ok(()) => Ok(()),
-        Err(_) => Err(Stop::SinkFault),
+    match reply {
+        Some(reply) => write_reply(out, reply),
+        None => Ok(()),
     }
 }
 
-/// Plays one line, given with its line feed where it has one, and writes its answer.
-pub fn play_line<K: Keeper, O: Sink>(
-    play: &mut Play<K>,
-    alloc: Global,
-    bytes: &[u8],
-    out: &mut O,
-) -> Result<(), Stop>
-    requires { play.old.line < 2 ^ 64 - 1 }
-    ensures line { play.new.line ≡ play.old.line + 1 }
-    ensures answered { OnOk result (AnswersLine (standing K.faults play.old (O.written out.old)) bytes.now
-        (standing K.faults play.new (O.written out.new))) }
-    ensures bad { (number column : ℕ) → result ≡ Err (Stop.BadLine number column) →
-        (number ≡ play.new.line) × (reading bytes.now ≡ Err column) }
-    ensures stays { (number column : ℕ) → result ≡ Err (Stop.BadLine number column) →
-        standing K.faults play.new (O.written out.new) ≡ standing K.faults play.old (O.written out.old) }
-    ensures cause { result ≡ Err Stop.SinkFault → HasRisen (O.faults out.old) (O.faults out.new) }
-    ensures count { O.faults out.old ≤ O.faults out.new }
-    ensures keeper { IsCounted play.old.met play.new.met (K.faults play.old.office.keeper) (K.faults play.new.office.keeper) }
-{
-    play.line += 1;
-    match answer(play, alloc, bytes) {
-        Ok(reply) => {
-            play.met = play.met.with(reply);
-            write_answer(out, reply)
+impl<K: Keeper> Play<K> {
+    /// Takes the room for the longest line, and starts the office at moment 0.
+    pub fn start(alloc: Global, keeper: K) -> Result<Play<K>, (StartFault, K)>
+        ensures begun { IfOk result (λ play. play ≡ record {
+          world = started;
+          met = record { keeper_fault = false; out_of_memory = false };
+          number = 0;
+          taken = 0;
+          under_way = [];
+          keeper = play.keeper;
+        }) }
+        ensures was_empty { OnOk result (KeptIsEmpty (K.kept keeper)) }
+        ensures told { IfOk result (λ play. is_some (K.kept play.keeper) ≡ is_some (K.kept keeper)) }
+        ensures counted { IfOk result (λ play. K.faults play.keeper ≡ K.faults keeper) }
+        ensures same { IfErr result (λ e. K.kept e.1 ≡ K.kept keeper) }
+        ensures fault { IfErr result (λ e. e.0 ≡ StartFault.KeeperFault → HasRisen (K.faults keeper) (K.faults e.1)) }
+        ensures not_empty { IfErr result (λ e. e.0 ≡ StartFault.NotEmpty →
+            IfSome (K.kept keeper) (λ kept. 0 < length kept.journal + length kept.rows)) }
+        ensures counted_err { IfErr result (λ e. K.faults keeper ≤ K.faults e.1) }
+        ensures most { IfErr result (λ e. K.faults e.1 ≤ K.faults keeper + faults_in_start e.0) }
+    {
+        let Ok(line) = UnderWay::new(alloc) else {
+            return Err((StartFault::OutOfMemory, keeper));
+        };
+        let Some(first) = Moment::new(0) else {
+            unreachable!();
+        };
+        let office = Office::start(alloc, keeper, first)?;
+        Ok(Play {
+            alloc,
+            office,
+            clock: first,
+            met: Met::nothing(),
+            number: 0,
+            taken: 0,
+            line,
+        })
+    }
+
+    /// Ends the play: the office is closed.
+    pub fn end(self, ending: Ending) -> Ended<K>
+        ensures is { result ≡ record { ending = ending; met = self.met; keeper = self.keeper } }
+        ensures stands { IfSome (K.kept result.keeper) (KeptStandsFor self.world.journal) }
+        ensures conserved { KeptIsConserved (K.kept result.keeper) }
+    {
+        let Play { office, met, .. } = self;
+        Ended {
+            ending,
+            met,
+            keeper: office.close(),
         }
-        Err(column) => Err(Stop::BadLine {
-            line: play.line,
-            column,
-        }),
+    }
+
+    // What a line that was read is answered, where it has an answer.
+    fn step(&mut self, line: Line) -> Option<Reply>
+        ensures step { IsStep self.old.world line result self.new.world }
+        ensures told { is_some (K.kept self.new.keeper) ≡ is_some (K.kept self.old.keeper) }
+        ensures cause { result ≡ Some Reply.KeeperFault → HasRisen (K.faults self.old.keeper) (K.faults self.new.keeper) }
+        ensures count { K.faults self.old.keeper ≤ K.faults self.new.keeper }
+        ensures most { K.faults self.new.keeper ≤ K.faults self.old.keeper + cond (is_keeper_fault result) 1 0 }
+        ensures same { self.new ≡ record self.old { world = self.new.world; keeper = self.new.keeper } }
+    {
+        match line {
+            Line::Nothing => None,
+            Line::At(moment) => {
+                self.clock = later(self.clock, moment);
+                None
+            }
+            Line::Asked(request) => Some(ask(&mut self.office, self.clock, request)),
+            Line::Mail => Some(mail(&mut self.office, self.clock)),
+            Line::Audit => Some(Reply::Audit(self.office.audit())),
+        }
+    }
+
+    // What the line under way is answered, where it has an answer; else the column at which it is bad.
+    fn answer(&mut self) -> Result<Option<Reply>, Column>
+        ensures played { IfOk result (λ reply. PlaysLine self.old.world self.old.under_way reply self.new.world) }
+        ensures bad { IfErr result (λ column. reading self.old.under_way ≡ Err column) }
+        ensures told { is_some (K.kept self.new.keeper) ≡ is_some (K.kept self.old.keeper) }
+        ensures cause { result ≡ Ok (Some Reply.KeeperFault) →
+            HasRisen (K.faults self.old.keeper) (K.faults self.new.keeper) }
+        ensures count { K.faults self.old.keeper ≤ K.faults self.new.keeper }
+        ensures most { IfOk result (λ reply.
+            K.faults self.new.keeper ≤ K.faults self.old.keeper + cond (is_keeper_fault reply) 1 0) }
+        ensures same { self.new ≡ record self.old { world = self.new.world; keeper = self.new.keeper } }
+        ensures stays { OnErr result (self.new ≡ self.old) }
+    {
+        match read_line(self.alloc, self.line.bytes()) {
+            Ok(line) => Ok(self.step(line)),
+            Err(LineFault::OutOfMemory) => Ok(Some(Reply::OutOfMemory)),
+            Err(LineFault::BadLine { column }) => Err(column),
+        }
+    }
+
+    // Counts the line under way, which was answered so, and begins the next.
+    fn pass(&mut self, reply: &Option<Reply>)
+        requires { 0 < length self.old.under_way }
+        ensures number { self.new.number ≡ self.old.number + 1 }
+        ensures under_way { self.new.under_way ≡ [] }
+        ensures keeper_fault { self.new.met.keeper_fault ≡ (self.old.met.keeper_fault || is_keeper_fault reply.now) }
+        ensures out_of_memory { self.new.met.out_of_memory ≡ (self.old.met.out_of_memory || is_out_of_memory reply.now) }
+        ensures same { (self.new.world ≡ self.old.world) × (self.new.keeper ≡ self.old.keeper) × (self.new.taken ≡ self.old.taken) }
+    {
+        self.number += 1;
+        self.met = self.met.with(reply);
+        self.line.clear();
+    }
+
+    /// Adds a byte to the line under way, and says whether the line is complete with it.
+    pub fn add(&mut self, byte: u8) -> bool
+        requires short { length self.old.under_way ≤ MAX_LINE }
+        requires room { self.old.taken < MAX_SCRIPT }
+        ensures is { self.new ≡ record self.old {
+          taken = self.old.taken + 1;
+          under_way = self.old.under_way ++ byte ∷ [];
+        } }
+        ensures complete { result ≡ completes (self.old.under_way ++ byte ∷ []) byte }
+    {
+        self.taken += 1;
+        self.line.push(byte)
+    }
+
+    /// How many bytes may still be taken.
+    pub fn room(&self) -> usize
+        ensures { result + self.now.taken ≡ MAX_SCRIPT }
+    {
+        MAX_SCRIPT - self.taken
+    }
+
+    /// Whether no byte is under way.
+    pub fn is_between_lines(&self) -> bool
+        ensures { result ≡ (length self.now.under_way == 0) }
+    {
+        self.line.bytes().is_empty()
+    }
+
+    /// Plays the line under way as it stands, and writes its answer.
+    pub fn play_line<O: Sink>(self, out: &mut O) -> Next<K>
+        requires { 0 < length self.under_way }
+        ensures { Goes K.kept K.faults (standing K.kept K.faults self (O.written out.old) (O.faults out.old))
+            (self.under_way ∷ []) [] self.taken result (O.written out.new) (O.faults out.new) }
+    {
+        let mut play = self;
+        match play.answer() {
+            Ok(reply) => {
+                play.pass(&reply);
+                match write_answer(out, &reply) {
+                    Ok(()) => Next::On(play),
+                    Err(_) => Next::Ended(play.end(Ending::SinkFault)),
+                }
+            }
+            Err(column) => {
+                let line = play.number + 1;
+                Next::Ended(play.end(Ending::BadLine { line, column }))
+            }
+        }
     }
 }

@@ -1,14 +1,13 @@
 //! What a line is answered, and its text.
-ghost use Rattle.std.specs.Prelude.{◌≡◌, ◌+◌, ◌≤◌, ◌++◌, length, codes, decimal, IfOk, OnOk, OnErr};
+ghost use Rattle.std.specs.Prelude.{◌≡◌, ◌≤◌, ◌++◌, codes, IfOk, OnOk, OnErr};
 ghost use Rattle.std.specs.Option.{option_map};
 ghost use Rattle.chat_model.specs.Counts.{HasRisen};
 ghost use Rattle.notifyd.specs.Sink.{WritesFront};
-ghost use Rattle.notifyd.specs.Words.{answer_words, mail_words, account_words, count_words, refusal_number, limit_words, refusal_words};
+ghost use Rattle.notifyd.specs.Words.{line_of, answer_words, mail_words, count_words, refusal_words};
 ghost use Rattle.notifyd.specs.Reply.{reply_text};
 
 use crate::Sink;
-use crate::print_line::{LineBuffer, push_count, push_number};
-use crate::sink::write_all;
+use crate::words::{Part, Words};
 use chat_model::{Answer, Counts, Failed, OutOfMemory, Refusal, Text};
 use office::MailAnswer;
 use std::alloc::Global;
@@ -34,7 +33,7 @@ pub enum Reply {
 pub fn print_reply(alloc: Global, reply: &Reply) -> Result<Text, OutOfMemory>
     ensures { IfOk result (λ text. text ≡ reply_text reply.now) }
 {
-    Text::from_str(alloc, reply_line(reply).as_str())
+    reply_words(reply).print_line(alloc)
 }
 
 /// Writes the line of a reply, and takes no memory. After a failure a front of the line was written.
@@ -45,141 +44,103 @@ pub fn write_reply<O: Sink>(out: &mut O, reply: &Reply) -> Result<(), Failed>
     ensures cause { OnErr result (HasRisen (O.faults out.old) (O.faults out.new)) }
     ensures count { O.faults out.old ≤ O.faults out.new }
 {
-    write_all(out, reply_line(reply).as_str().as_bytes())
+    reply_words(reply).write_line(out)
 }
 
-fn reply_line(reply: &Reply) -> LineBuffer
-    ensures { result.bytes ≡ reply_text reply.now }
+fn reply_words(reply: &Reply) -> Words<'_>
+    ensures { line_of result ≡ reply_text reply.now }
 {
-    let mut line = LineBuffer::new();
     match reply {
-        Reply::Answer(answer) => push_answer(&mut line, answer),
-        Reply::Mail(answer) => push_mail_answer(&mut line, answer),
-        Reply::Audit(counts) => push_counts(&mut line, counts),
-        Reply::Refused(refusal) => push_refusal(&mut line, *refusal),
-        Reply::KeeperFault => line.push_str("fault keeper"),
-        Reply::OutOfMemory => line.push_str("out of memory"),
+        Reply::Answer(answer) => answer_words(answer),
+        Reply::Mail(answer) => mail_words(answer),
+        Reply::Audit(counts) => count_words(counts),
+        Reply::Refused(refusal) => refusal_words(refusal),
+        Reply::KeeperFault => Words::word("fault keeper"),
+        Reply::OutOfMemory => Words::word("out of memory"),
     }
-    line.push_str("\n");
-    line
 }
 
-fn push_answer(line: &mut LineBuffer, answer: &Answer)
-    requires { length line.old.bytes ≤ 100 }
-    ensures bytes { line.new.bytes ≡ line.old.bytes ++ answer_words answer.now }
-    ensures length { length line.new.bytes ≤ length line.old.bytes + 100 }
+fn answer_words(answer: &Answer) -> Words<'_>
+    ensures { result ≡ answer_words answer.now }
 {
     match answer {
-        Answer::User(user) => {
-            line.push_str("user ");
-            push_number(line, user.0);
-        }
-        Answer::Group(group) => {
-            line.push_str("group ");
-            push_number(line, group.0);
-        }
-        Answer::Channel(channel) => {
-            line.push_str("channel ");
-            push_number(line, channel.0);
-        }
-        Answer::Sent { message, deal } => {
-            line.push_str("sent ");
-            push_number(line, message.0);
-            line.push_str(" deal ");
-            push_number(line, deal.0);
-        }
-        Answer::Done => line.push_str("ok"),
+        Answer::User(user) => Words::of(&[Part::Word("user "), Part::Number(user.0)]),
+        Answer::Group(group) => Words::of(&[Part::Word("group "), Part::Number(group.0)]),
+        Answer::Channel(channel) => Words::of(&[Part::Word("channel "), Part::Number(channel.0)]),
+        Answer::Sent { message, deal } => Words::of(&[
+            Part::Word("sent "),
+            Part::Number(message.0),
+            Part::Word(" deal "),
+            Part::Number(deal.0),
+        ]),
+        Answer::Done => Words::word("ok"),
     }
 }
 
-fn push_mail_answer(line: &mut LineBuffer, answer: &MailAnswer)
-    requires { length line.old.bytes ≤ 100 }
-    ensures bytes { line.new.bytes ≡ line.old.bytes ++ mail_words answer.now }
-    ensures length { length line.new.bytes ≤ length line.old.bytes + 100 }
+fn mail_words(answer: &MailAnswer) -> Words<'_>
+    ensures { result ≡ mail_words answer.now }
 {
     match answer {
         MailAnswer::Mailed {
             user,
             entries,
             dropped,
-        } => {
-            line.push_str("mailed ");
-            push_number(line, user.0);
-            line.push_str(" entries=");
-            push_number(line, *entries);
-            line.push_str(" dropped=");
-            push_number(line, *dropped);
-        }
+        } => Words::of(&[
+            Part::Word("mailed "),
+            Part::Number(user.0),
+            Part::Word(" entries="),
+            Part::Number(*entries),
+            Part::Word(" dropped="),
+            Part::Number(*dropped),
+        ]),
         MailAnswer::NotDue(Some(moment)) => {
-            line.push_str("not due ");
-            push_number(line, *moment);
+            Words::of(&[Part::Word("not due "), Part::Number(*moment)])
         }
-        MailAnswer::NotDue(None) => line.push_str("not due -"),
+        MailAnswer::NotDue(None) => Words::word("not due -"),
     }
 }
 
 #[tactic(auto, unfolding(crate::specs::Words::account_words))]
-fn push_accounts(line: &mut LineBuffer, counts: &Counts)
-    requires { length line.old.bytes ≤ 100 }
-    ensures bytes { line.new.bytes ≡ line.old.bytes ++ account_words counts.now }
-    ensures length { length line.new.bytes ≤ length line.old.bytes + 214 }
+fn count_words(counts: &Counts) -> Words<'_>
+    ensures { result ≡ count_words counts.now }
 {
-    push_count(line, "flight=", counts.flight);
-    push_count(line, " held=", counts.held);
-    push_count(line, " ready=", counts.ready);
-    push_count(line, " handed=", counts.handed);
-    push_count(line, " read=", counts.read);
-    push_count(line, " deleted=", counts.deleted);
-    push_count(line, " off=", counts.off);
-    push_count(line, " live=", counts.live);
+    Words::of(&[
+        Part::Word("audit flight="),
+        Part::Number(counts.flight),
+        Part::Word(" held="),
+        Part::Number(counts.held),
+        Part::Word(" ready="),
+        Part::Number(counts.ready),
+        Part::Word(" handed="),
+        Part::Number(counts.handed),
+        Part::Word(" read="),
+        Part::Number(counts.read),
+        Part::Word(" deleted="),
+        Part::Number(counts.deleted),
+        Part::Word(" off="),
+        Part::Number(counts.off),
+        Part::Word(" live="),
+        Part::Number(counts.live),
+        Part::Word(" entries="),
+        Part::Number(counts.entries),
+        Part::Word(" waiting="),
+        Part::Number(counts.waiting),
+        Part::Word(" written="),
+        Part::Number(counts.written),
+    ])
 }
 
-fn push_counts(line: &mut LineBuffer, counts: &Counts)
-    requires { length line.old.bytes ≤ 10 }
-    ensures bytes { line.new.bytes ≡ line.old.bytes ++ count_words counts.now }
-    ensures length { length line.new.bytes ≤ length line.old.bytes + 310 }
+fn refusal_words(refusal: &Refusal) -> Words<'_>
+    ensures { result ≡ refusal_words refusal.now }
 {
-    line.push_str("audit ");
-    push_accounts(line, counts);
-    push_count(line, " entries=", counts.entries);
-    push_count(line, " waiting=", counts.waiting);
-    push_count(line, " written=", counts.written);
-}
-
-fn push_refusal(line: &mut LineBuffer, refusal: Refusal)
-    requires { length line.old.bytes ≤ 100 }
-    ensures bytes { line.new.bytes ≡ line.old.bytes ++ refusal_words refusal }
-    ensures length { length line.new.bytes ≤ length line.old.bytes + 100 }
-{
-    push_count(line, "refused ", number_of(refusal));
-    push_limit(line, refusal);
-}
-
-// Puts the limit behind the line, where a list was too long.
-fn push_limit(line: &mut LineBuffer, refusal: Refusal)
-    requires { length line.old.bytes ≤ 200 }
-    ensures bytes { line.new.bytes ≡ line.old.bytes ++ limit_words refusal }
-    ensures length { length line.new.bytes ≤ length line.old.bytes + 30 }
-{
-    if let Refusal::TooMany { limit } = refusal {
-        push_count(line, " limit ", limit);
-    }
-}
-
-fn number_of(refusal: Refusal) -> u64
-    ensures { result ≡ refusal_number refusal }
-{
+    let number = refusal.number();
     match refusal {
-        Refusal::NoUser => 10,
-        Refusal::NoChannel => 11,
-        Refusal::NoGroup => 13,
-        Refusal::Exists => 14,
-        Refusal::NotSubscribed => 16,
-        Refusal::EmptyText => 17,
-        Refusal::TextTooLong => 18,
-        Refusal::TopicTooLong => 19,
-        Refusal::TooMany { .. } => 23,
-        Refusal::NameTooLong => 24,
-        Refusal::BadName => 25,
+        Refusal::TooMany { limit } => Words::of(&[
+            Part::Word("refused "),
+            Part::Number(number),
+            Part::Word(" limit "),
+            Part::Number(*limit),
+        ]),
+        _ => Words::of(&[Part::Word("refused "), Part::Number(number)]),
     }
 }

@@ -1,194 +1,161 @@
 //! Whole scripts with groups, with texts of all kinds, and with requests that break a rule.
 use super::*;
-use crate::run_tests::{NEVER, OPENED, OPENING, expect_play, expect_run};
+use crate::run_tests::{NEVER, OPENING, expect_opened, expect_worked};
 use std::alloc::AllocError;
 use std::process::Abort;
 use std::test::Fail;
 
-const NOTHING_OWED: &str =
-    "audit flight=0 held=0 ready=0 handed=0 read=0 deleted=0 off=0 live=0 entries=0 waiting=0 written=0\n";
-
-const TWO_READY: &str =
-    "audit flight=0 held=0 ready=2 handed=0 read=0 deleted=0 off=0 live=0 entries=0 waiting=0 written=0\n";
-
-// Plays the lines behind the opening, and compares their answers.
-fn expect_answers<R: Abort + AllocGlobal>(rt: &R, lines: &str, answers: &str) -> Result<(), Fail> {
-    let alloc = rt.alloc();
-    let script = format!(in alloc; "{OPENING}{lines}")?;
-    let written = format!(in alloc; "{OPENED}{answers}")?;
-    expect_play(rt, script.as_str(), 4_096, &NEVER, written.as_str(), 0)
-}
-
 #[test]
-fn requests_that_break_a_rule_are_refused(rt: HostRuntime) -> Result<(), Fail> {
-    expect_answers(
-        &rt,
-        "send 3 1 \"a\" \"x\"\nsend 1 9 \"a\" \"x\"\nmember 4 1 on\nchannel \"TEAM\"\nsend 1 1 \"a\" \"x\"\n",
-        "refused 10\nrefused 11\nrefused 13\nrefused 14\nsent 1 deal 0\n",
-    )?;
-    expect_answers(
-        &rt,
-        "sub 2 1 off\nsend 2 1 \"a\" \"x\"\nsend 1 1 \"a\" \"  \"\nuser \"a*b\"\nuser \"\"\n",
-        "ok\nrefused 16\nrefused 17\nrefused 25\nrefused 25\n",
-    )?;
-    expect_answers(
-        &rt,
-        "group \"ops\" -\ngroup \"OPS\" 1\ngroup \"dev\" 1,9\nmember 1 9 on\n",
-        "group 1\nrefused 14\nrefused 10\nrefused 10\n",
-    )
-}
-
-#[test]
-fn names_are_shared_where_no_rule_forbids_it(rt: HostRuntime) -> Result<(), Fail> {
-    expect_answers(
-        &rt,
-        "user \"ada\"\ngroup \"team\" 1\nchannel \"Ada\"\nsend 1 1 \"\" \"x\"\n",
-        "user 3\ngroup 1\nchannel 2\nsent 1 deal 0\n",
-    )
-}
-
-fn push_times(bytes: &mut Vec<u8>, piece: &str, count: usize) -> Result<(), AllocError> {
-    for _ in 0..count {
-        bytes.extend_from_slice(piece.as_bytes())?;
+fn requests_are_granted_or_refused_by_their_rules(rt: HostRuntime) -> Result<(), Fail> {
+    let scripts = [
+        r#"send 3 1 "a" "x" => refused 10
+send 1 9 "a" "x" => refused 11
+member 4 1 on => refused 13
+channel "TEAM" => refused 14
+send 1 1 "a" "x" => sent 1 deal 0
+"#,
+        r#"sub 2 1 off => ok
+send 2 1 "a" "x" => refused 16
+send 1 1 "a" "  " => refused 17
+user "a*b" => refused 25
+user "" => refused 25
+group "a*b" 1 => refused 25
+channel "a*b" => refused 25
+"#,
+        r#"group "ops" - => group 1
+group "OPS" 1 => refused 14
+group "dev" 1,9 => refused 10
+member 1 9 on => refused 10
+"#,
+        r#"# Names that may be shared.
+user "ada" => user 3
+group "team" 1 => group 1
+channel "Ada" => channel 2
+send 1 1 "" "x" => sent 1 deal 0
+"#,
+        r#"# Of two broken rules the smaller number is answered.
+group "ops" - => group 1
+group "OPS" 9 => refused 10
+member 4 9 on => refused 10
+sub 2 1 off => ok
+send 2 1 "a" "  " => refused 16
+"#,
+    ];
+    for rows in scripts {
+        expect_opened(&rt, rows)?;
     }
     Ok(())
 }
 
-// A user whose name has the character so many times.
-fn push_user(script: &mut Vec<u8>, character: &str, count: usize) -> Result<(), AllocError> {
-    script.extend_from_slice(b"user \"")?;
-    push_times(script, character, count)?;
-    script.extend_from_slice(b"\"\n")
-}
-
-// A message whose topic and text have the character so many times.
-fn push_send(
-    script: &mut Vec<u8>,
-    character: &str,
-    topic: usize,
-    text: usize,
-) -> Result<(), AllocError> {
-    script.extend_from_slice(b"send 1 1 \"")?;
-    push_times(script, character, topic)?;
-    script.extend_from_slice(b"\" \"")?;
-    push_times(script, character, text)?;
-    script.extend_from_slice(b"\"\n")
-}
-
-fn expect_lengths<R: Abort + AllocGlobal>(rt: &R, character: &str) -> Result<(), Fail> {
-    let alloc = rt.alloc();
-    let mut script = Vec::from_slice(alloc, OPENING.as_bytes())?;
-    push_user(&mut script, character, 101)?;
-    push_user(&mut script, character, 100)?;
-    push_send(&mut script, character, 61, 1)?;
-    push_send(&mut script, character, 60, 1)?;
-    push_send(&mut script, character, 1, 10_001)?;
-    push_send(&mut script, character, 1, 10_000)?;
-    let answers = "refused 24\nuser 3\nrefused 19\nsent 1 deal 0\nrefused 18\nsent 2 deal 1\n";
-    let written = format!(in alloc; "{OPENED}{answers}")?;
-    expect_run(rt, List::from(script), 4_096, &NEVER, written.as_str(), 0)
-}
-
 #[test]
-fn lengths_are_counted_in_characters(rt: HostRuntime) -> Result<(), Fail> {
-    expect_lengths(&rt, "x")?;
-    expect_lengths(&rt, "é")
+fn notices_come_by_name_by_group_and_not_by_wildcards(rt: HostRuntime) -> Result<(), Fail> {
+    let scripts = [
+        r#"# A group of the sender alone.
+group "ops" 2,2 => group 1
+member 1 1 on => ok
+member 1 2 off => ok
+send 1 1 "a" "@*OPS* x" => sent 1 deal 0
+audit => audit flight=0 held=0 ready=0 handed=0 read=0 deleted=0 off=0 live=0 entries=0 waiting=0 written=0
+"#,
+        r#"group "ops" 2,1 => group 1
+send 1 1 "lunch" "ask @*Ops*" => sent 1 deal 0
+audit => audit flight=0 held=0 ready=2 handed=0 read=0 deleted=0 off=0 live=0 entries=0 waiting=0 written=0
+at 219
+mail => not due 220
+at 220
+mail => mailed 2 entries=1 dropped=0
+mail => not due -
+"#,
+        r#"send 1 1 "a" "@**all** @**everyone** @**topic**" => sent 1 deal 0
+audit => audit flight=0 held=0 ready=0 handed=0 read=0 deleted=0 off=0 live=0 entries=0 waiting=0 written=0
+"#,
+        r#"# Marks and line feeds in a text.
+send 1 1 "a" "one `|` two\n_three_ > four ~" => sent 1 deal 0
+send 1 1 "a" "`@**Ben**` @_**Ben**\n> @**Ben**" => sent 2 deal 1
+audit => audit flight=0 held=0 ready=0 handed=0 read=0 deleted=0 off=0 live=0 entries=0 waiting=0 written=0
+send 1 1 "a" "> no\n@**Ben|2**" => sent 3 deal 2
+audit => audit flight=0 held=0 ready=2 handed=0 read=0 deleted=0 off=0 live=0 entries=0 waiting=0 written=0
+"#,
+    ];
+    for rows in scripts {
+        expect_opened(&rt, rows)?;
+    }
+    Ok(())
 }
 
-// A group whose list has the first user so many times.
-fn push_group(script: &mut Vec<u8>, name: &str, count: usize) -> Result<(), AllocError> {
-    script.extend_from_slice(b"group \"")?;
-    script.extend_from_slice(name.as_bytes())?;
-    script.extend_from_slice(b"\" 1")?;
-    push_times(script, ",1", count)?;
-    script.extend_from_slice(b"\n")
+// A row, of which each piece is repeated so often.
+fn push_written(worked: &mut String, row: &[(&str, usize)]) -> Result<(), AllocError> {
+    for (text, count) in row {
+        for _ in 0..*count {
+            worked.push_str(text)?;
+        }
+    }
+    worked.push_str("\n")
 }
 
+// Plays the opening and rows whose pieces are repeated so often.
+fn expect_repeated<R: Abort + AllocGlobal>(rt: &R, rows: &[&[(&str, usize)]]) -> Result<(), Fail> {
+    let mut worked = String::from_str(rt.alloc(), OPENING)?;
+    for row in rows {
+        push_written(&mut worked, row)?;
+    }
+    expect_worked(rt, worked.as_str(), 4_096, &NEVER, 0)
+}
+
+// Lengths are counted in characters, and lists with their repeats.
 #[test]
-fn a_list_may_have_10000_items(rt: HostRuntime) -> Result<(), Fail> {
-    let alloc = rt.alloc();
-    let mut script = Vec::from_slice(alloc, OPENING.as_bytes())?;
-    push_group(&mut script, "ops", 9_999)?;
-    push_group(&mut script, "dev", 10_000)?;
-    let written = format!(in alloc; "{OPENED}group 1\nrefused 23 limit 10000\n")?;
-    expect_run(&rt, List::from(script), 4_096, &NEVER, written.as_str(), 0)
-}
-
-#[test]
-fn of_two_broken_rules_the_smaller_number_is_answered(rt: HostRuntime) -> Result<(), Fail> {
-    let alloc = rt.alloc();
-    let mut script = Vec::from_slice(alloc, OPENING.as_bytes())?;
-    script.extend_from_slice(b"group \"ops\" -\ngroup \"OPS\" 9\nmember 4 9 on\n")?;
-    script.extend_from_slice(b"sub 2 1 off\nsend 2 1 \"a\" \"  \"\n")?;
-    push_group(&mut script, "OPS", 10_000)?;
-    push_send(&mut script, " ", 1, 10_001)?;
-    push_user(&mut script, "*", 101)?;
-    let answers =
-        "group 1\nrefused 10\nrefused 10\nok\nrefused 16\nrefused 14\nrefused 17\nrefused 24\n";
-    let written = format!(in alloc; "{OPENED}{answers}")?;
-    expect_run(&rt, List::from(script), 4_096, &NEVER, written.as_str(), 0)
-}
-
-#[test]
-fn names_of_groups_and_channels_are_judged_as_those_of_users(rt: HostRuntime) -> Result<(), Fail> {
-    let alloc = rt.alloc();
-    let mut script = Vec::from_slice(alloc, OPENING.as_bytes())?;
-    script.extend_from_slice(b"group \"")?;
-    push_times(&mut script, "x", 101)?;
-    script.extend_from_slice(b"\" 1\ngroup \"a*b\" 1\nchannel \"")?;
-    push_times(&mut script, "x", 101)?;
-    script.extend_from_slice(b"\"\nchannel \"a*b\"\n")?;
-    let answers = "refused 24\nrefused 25\nrefused 24\nrefused 25\n";
-    let written = format!(in alloc; "{OPENED}{answers}")?;
-    expect_run(&rt, List::from(script), 4_096, &NEVER, written.as_str(), 0)
-}
-
-#[test]
-fn a_group_of_the_sender_alone_owes_nothing(rt: HostRuntime) -> Result<(), Fail> {
-    let alloc = rt.alloc();
-    let answers = format!(in alloc; "group 1\nok\nok\nsent 1 deal 0\n{NOTHING_OWED}")?;
-    expect_answers(
+fn names_texts_and_lists_have_their_limits(rt: HostRuntime) -> Result<(), Fail> {
+    for character in ["x", "é"] {
+        expect_repeated(
+            &rt,
+            &[
+                &[("user \"", 1), (character, 101), ("\" => refused 24", 1)],
+                &[("user \"", 1), (character, 100), ("\" => user 3", 1)],
+                &[("group \"", 1), (character, 101), ("\" 1 => refused 24", 1)],
+                &[("channel \"", 1), (character, 101), ("\" => refused 24", 1)],
+                &[
+                    ("send 1 1 \"", 1),
+                    (character, 61),
+                    ("\" \"x\" => refused 19", 1),
+                ],
+                &[
+                    ("send 1 1 \"", 1),
+                    (character, 60),
+                    ("\" \"x\" => sent 1 deal 0", 1),
+                ],
+                &[
+                    ("send 1 1 \"a\" \"", 1),
+                    (character, 10_001),
+                    ("\" => refused 18", 1),
+                ],
+                &[
+                    ("send 1 1 \"a\" \"", 1),
+                    (character, 10_000),
+                    ("\" => sent 2 deal 1", 1),
+                ],
+            ],
+        )?;
+    }
+    expect_repeated(
         &rt,
-        "group \"ops\" 2,2\nmember 1 1 on\nmember 1 2 off\nsend 1 1 \"a\" \"@*OPS* x\"\naudit\n",
-        answers.as_str(),
+        &[
+            &[("group \"ops\" 1", 1), (",1", 9_999), (" => group 1", 1)],
+            &[
+                ("group \"dev\" 1", 1),
+                (",1", 10_000),
+                (" => refused 23 limit 10000", 1),
+            ],
+            &[
+                ("group \"OPS\" 1", 1),
+                (",1", 10_000),
+                (" => refused 14", 1),
+            ],
+            &[
+                ("send 1 1 \"a\" \"", 1),
+                (" ", 10_001),
+                ("\" => refused 17", 1),
+            ],
+            &[("user \"", 1), ("*", 101), ("\" => refused 24", 1)],
+        ],
     )
-}
-
-#[test]
-fn a_member_of_a_mentioned_group_is_mailed(rt: HostRuntime) -> Result<(), Fail> {
-    let alloc = rt.alloc();
-    let answers = format!(in alloc;
-        "group 1\nsent 1 deal 0\n{TWO_READY}not due 220\nmailed 2 entries=1 dropped=0\nnot due -\n"
-    )?;
-    expect_answers(
-        &rt,
-        "group \"ops\" 2,1\nsend 1 1 \"lunch\" \"ask @*Ops*\"\naudit\nat 219\nmail\nat 220\nmail\nmail\n",
-        answers.as_str(),
-    )
-}
-
-#[test]
-fn a_wildcard_owes_nothing(rt: HostRuntime) -> Result<(), Fail> {
-    let alloc = rt.alloc();
-    let answers = format!(in alloc; "sent 1 deal 0\n{NOTHING_OWED}")?;
-    expect_answers(
-        &rt,
-        "send 1 1 \"a\" \"@**all** @**everyone** @**topic**\"\naudit\n",
-        answers.as_str(),
-    )
-}
-
-#[test]
-fn marks_and_line_feeds_may_stand_in_a_text(rt: HostRuntime) -> Result<(), Fail> {
-    let alloc = rt.alloc();
-    let answers = format!(in alloc;
-        "sent 1 deal 0\nsent 2 deal 1\n{NOTHING_OWED}sent 3 deal 2\n{TWO_READY}"
-    )?;
-    let script = format!(in alloc;
-        "{}{}{}",
-        "send 1 1 \"a\" \"one `|` two\\n_three_ > four ~\"\n",
-        "send 1 1 \"a\" \"`@**Ben**` @_**Ben**\\n> @**Ben**\"\naudit\n",
-        "send 1 1 \"a\" \"> no\\n@**Ben|2**\"\naudit\n"
-    )?;
-    expect_answers(&rt, script.as_str(), answers.as_str())
 }

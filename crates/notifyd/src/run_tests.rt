@@ -1,17 +1,22 @@
-//! Whole scripts over devices in memory.
+//! Whole scripts over devices in memory. A worked script is written as the rules write it: each line with its answer
+//! behind ` => `, and without one where the line has none.
 ghost use Rattle.std.specs.Prelude.{ℕ, ◌≤◌};
 
 use super::*;
+use chat_model::List;
+use keeper::MemoryKeeper;
 use std::alloc::{AllocError, Global};
 use std::process::Abort;
 use std::test::Fail;
 
-pub const OPENING: &str =
-    "user \"Ada\"\nuser \"Ben\"\nchannel \"team\"\nsub 1 1 on\nsub 2 1 on\nat 100\n";
-
-pub const OPENED: &str = "user 1\nuser 2\nchannel 1\nok\nok\n";
-
-const MENTION: &str = "send 1 1 \"lunch\" \"hi @**Ben**\"\n";
+/// What most worked scripts begin with.
+pub const OPENING: &str = r#"user "Ada" => user 1
+user "Ben" => user 2
+channel "team" => channel 1
+sub 1 1 on => ok
+sub 2 1 on => ok
+at 100
+"#;
 
 // The numbers of the calls at which each device fails.
 #[derive(Clone, Copy)]
@@ -31,13 +36,13 @@ fn list_of(alloc: Global, numbers: &[u64]) -> Result<List<u64>, AllocError> {
     Ok(List::from(Vec::from_slice(alloc, numbers)?))
 }
 
-// Runs `play` on the bytes in pieces of so many, and compares what is written and the status.
+/// Runs `play` on the bytes in pieces of so many, and compares what is written and the status.
 pub fn expect_run<R: Abort + AllocGlobal>(
     rt: &R,
     bytes: List<u8>,
     piece: usize,
     failing: &Failing<'_>,
-    written: &str,
+    written: &[u8],
     status: u8,
 ) -> Result<(), Fail>
     requires { 1 ≤ piece }
@@ -56,94 +61,140 @@ pub fn expect_run<R: Abort + AllocGlobal>(
         keeper,
         &mut spool,
     );
-    assert_eq!(rt; sink.bytes(), written.as_bytes());
+    assert_eq!(rt; sink.bytes(), written);
     assert_eq!(rt; ran.status, status);
     Ok(())
 }
 
-pub fn expect_play<R: Abort + AllocGlobal>(
+// The lines of a worked script, and their answers, each with a line feed.
+fn lines_and_answers(alloc: Global, worked: &str) -> Result<(Vec<u8>, Vec<u8>), AllocError> {
+    let mut lines = Vec::new(alloc);
+    let mut answers = Vec::new(alloc);
+    for row in worked.lines() {
+        match row.split_once(" => ") {
+            Some((line, answer)) => {
+                push_line(&mut lines, line)?;
+                push_line(&mut answers, answer)?;
+            }
+            None => push_line(&mut lines, row)?,
+        }
+    }
+    Ok((lines, answers))
+}
+
+fn push_line(bytes: &mut Vec<u8>, line: &str) -> Result<(), AllocError> {
+    bytes.extend_from_slice(line.as_bytes())?;
+    bytes.extend_from_slice(b"\n")
+}
+
+/// Plays a worked script in pieces of so many bytes, and compares all answers and the status.
+pub fn expect_worked<R: Abort + AllocGlobal>(
     rt: &R,
-    script: &str,
+    worked: &str,
     piece: usize,
     failing: &Failing<'_>,
-    written: &str,
     status: u8,
 ) -> Result<(), Fail>
     requires { 1 ≤ piece }
 {
-    let bytes = List::from(Vec::from_slice(rt.alloc(), script.as_bytes())?);
-    expect_run(rt, bytes, piece, failing, written, status)
+    let (lines, answers) = lines_and_answers(rt.alloc(), worked)?;
+    expect_run(
+        rt,
+        List::from(lines),
+        piece,
+        failing,
+        answers.as_slice(),
+        status,
+    )
+}
+
+/// Plays the opening and the rows of a worked script behind it, to status 0.
+pub fn expect_opened<R: Abort + AllocGlobal>(rt: &R, rows: &str) -> Result<(), Fail> {
+    let worked = format!(in rt.alloc(); "{OPENING}{rows}")?;
+    expect_worked(rt, worked.as_str(), 4_096, &NEVER, 0)
 }
 
 #[test]
 fn an_idle_user_is_mailed_after_the_period(rt: HostRuntime) -> Result<(), Fail> {
-    let alloc = rt.alloc();
-    let rest = "audit\nat 219\nmail\nat 220\nmail\nmail\naudit\n";
-    let script = format!(in alloc; "{OPENING}{MENTION}{rest}")?;
-    let ready =
-        "audit flight=0 held=0 ready=2 handed=0 read=0 deleted=0 off=0 live=0 entries=0 waiting=0 written=0\n";
-    let mailed = "not due 220\nmailed 2 entries=1 dropped=0\nnot due -\n";
-    let handed =
-        "audit flight=0 held=0 ready=1 handed=1 read=0 deleted=0 off=0 live=0 entries=1 waiting=0 written=0\n";
-    let written = format!(in alloc; "{OPENED}sent 1 deal 0\n{ready}{mailed}{handed}")?;
-    expect_play(&rt, script.as_str(), 4_096, &NEVER, written.as_str(), 0)?;
-    expect_play(&rt, script.as_str(), 1, &NEVER, written.as_str(), 0)
+    let rows = r#"# Ada mentions Ben.
+send 1 1 "lunch" "hi @**Ben**" => sent 1 deal 0
+audit => audit flight=0 held=0 ready=2 handed=0 read=0 deleted=0 off=0 live=0 entries=0 waiting=0 written=0
+at 219
+mail => not due 220
+at 220
+mail => mailed 2 entries=1 dropped=0
+mail => not due -
+audit => audit flight=0 held=0 ready=1 handed=1 read=0 deleted=0 off=0 live=0 entries=1 waiting=0 written=0
+"#;
+    let worked = format!(in rt.alloc(); "{OPENING}{rows}")?;
+    for piece in [1, 4_096] {
+        assert!(rt; 1 <= piece);
+        expect_worked(&rt, worked.as_str(), piece, &NEVER, 0)?;
+    }
+    Ok(())
 }
 
+// The start makes the first two calls of the keeper, and the opening five more.
 #[test]
-fn nothing_is_counted_at_first(rt: HostRuntime) -> Result<(), Fail> {
-    let zeros =
-        "audit flight=0 held=0 ready=0 handed=0 read=0 deleted=0 off=0 live=0 entries=0 waiting=0 written=0\n";
-    expect_play(&rt, "audit", 4_096, &NEVER, zeros, 0)
-}
-
-// The start makes the first two calls of the keeper.
-#[test]
-fn a_failed_send_is_sent_again(rt: HostRuntime) -> Result<(), Fail> {
-    let alloc = rt.alloc();
-    let script = format!(in alloc; "{OPENING}{MENTION}{MENTION}")?;
-    let written = format!(in alloc; "{OPENED}fault keeper\nsent 1 deal 0\n")?;
-    let failing = Failing {
+fn what_fails_is_answered_and_may_end_the_play(rt: HostRuntime) -> Result<(), Fail> {
+    let opened = r#"send 1 1 "lunch" "hi @**Ben**" => fault keeper
+send 1 1 "lunch" "hi @**Ben**" => sent 1 deal 0
+"#;
+    let worked = format!(in rt.alloc(); "{OPENING}{opened}")?;
+    let keeper = Failing {
         keeper: &[8],
         ..NEVER
     };
-    expect_play(&rt, script.as_str(), 4_096, &failing, written.as_str(), 5)
-}
-
-#[test]
-fn a_last_line_needs_no_line_feed(rt: HostRuntime) -> Result<(), Fail> {
-    expect_play(&rt, "user \"Ada\"", 4_096, &NEVER, "user 1\n", 0)?;
-    expect_play(&rt, "", 4_096, &NEVER, "", 0)
-}
-
-#[test]
-fn a_bad_line_ends_the_play(rt: HostRuntime) -> Result<(), Fail> {
-    let script = "user \"Ada\"\nsend 1 one \"a\" \"x\"\nuser \"Ben\"\n";
-    let written = "user 1\nbad line 2 column 8\n";
-    expect_play(&rt, script, 4_096, &NEVER, written, 2)?;
-    expect_play(&rt, "at", 1, &NEVER, "bad line 1 column 3\n", 2)?;
-    expect_play(&rt, "hello", 1, &NEVER, "bad line 1 column 1\n", 2)?;
-    expect_play(&rt, "user \"Ada", 1, &NEVER, "bad line 1 column 6\n", 2)
-}
-
-#[test]
-fn a_device_that_fails_ends_the_play(rt: HostRuntime) -> Result<(), Fail> {
-    let script = "user \"Ada\"\nuser \"Ben\"";
+    expect_worked(&rt, worked.as_str(), 4_096, &keeper, 5)?;
+    let start = Failing {
+        keeper: &[1],
+        ..NEVER
+    };
+    expect_worked(&rt, r#"user "Ada" => fault keeper"#, 4_096, &start, 5)?;
     let source = Failing {
         source: &[2],
         ..NEVER
     };
-    expect_play(&rt, script, 12, &source, "user 1\nfault source\n", 3)?;
+    let worked = r#"user "Ada" => user 1
+user "Ben" => fault source"#;
+    expect_worked(&rt, worked, 12, &source, 3)?;
     let sink = Failing {
-        sink: &[1],
+        sink: &[2],
         ..NEVER
     };
-    expect_play(&rt, script, 4_096, &sink, "", 4)?;
-    let keeper = Failing {
-        keeper: &[1],
-        ..NEVER
-    };
-    expect_play(&rt, script, 4_096, &keeper, "fault keeper\n", 5)
+    let worked = r#"user "Ada" => user 1
+user "Ben""#;
+    expect_worked(&rt, worked, 4_096, &sink, 4)
+}
+
+#[test]
+fn scripts_end_with_their_status(rt: HostRuntime) -> Result<(), Fail> {
+    let rows = [
+        ("", 0),
+        (
+            "audit => audit flight=0 held=0 ready=0 handed=0 read=0 deleted=0 off=0 live=0 entries=0 waiting=0 written=0",
+            0,
+        ),
+        (
+            r#"user "Ada" => user 1
+send 1 one "a" "x" => bad line 2 column 8
+user "Ben""#,
+            2,
+        ),
+        ("at => bad line 1 column 3", 2),
+        ("hello => bad line 1 column 1", 2),
+        (r#"user "Ada => bad line 1 column 6"#, 2),
+    ];
+    for (worked, status) in rows {
+        expect_worked(&rt, worked, 4_096, &NEVER, status)?;
+    }
+    Ok(())
+}
+
+#[test]
+fn a_last_line_needs_no_line_feed(rt: HostRuntime) -> Result<(), Fail> {
+    let bytes = List::from(Vec::from_slice(rt.alloc(), b"user \"Ada\"")?);
+    expect_run(&rt, bytes, 4_096, &NEVER, b"user 1\n", 0)
 }
 
 #[test]
@@ -198,44 +249,57 @@ fn a_keeper_that_keeps_something_is_not_started_over(rt: HostRuntime) -> Result<
     Ok(())
 }
 
-fn push_repeated(bytes: &mut Vec<u8>, byte: u8, count: usize) -> Result<(), AllocError> {
+// A comment of so many bytes, without a line feed.
+fn push_comment(bytes: &mut Vec<u8>, count: usize) -> Result<(), AllocError> {
     for _ in 0..count {
-        bytes.push(byte)?;
+        bytes.push(b'#')?;
     }
     Ok(())
 }
 
 #[test]
-fn a_line_across_two_pieces_is_one_line(rt: HostRuntime) -> Result<(), Fail> {
-    let alloc = rt.alloc();
-    let mut script = Vec::new(alloc);
-    push_repeated(&mut script, b'#', 4_090)?;
-    script.extend_from_slice(b"\nuser \"Ada\"\n")?;
-    expect_run(&rt, List::from(script), 4_096, &NEVER, "user 1\n", 0)
-}
-
-#[test]
-fn a_line_may_have_131072_bytes(rt: HostRuntime) -> Result<(), Fail> {
-    let alloc = rt.alloc();
-    let mut longest = Vec::new(alloc);
-    push_repeated(&mut longest, b'#', 131_072)?;
-    longest.extend_from_slice(b"\nuser \"Ada\"\n")?;
-    expect_run(&rt, List::from(longest), 4_096, &NEVER, "user 1\n", 0)?;
-    let mut too_long = Vec::new(alloc);
-    push_repeated(&mut too_long, b'#', 131_073)?;
-    let written = "bad line 1 column 131073\n";
+fn a_line_may_cross_pieces_and_have_131072_bytes(rt: HostRuntime) -> Result<(), Fail> {
+    for count in [4_090, 131_072] {
+        let mut script = Vec::new(rt.alloc());
+        push_comment(&mut script, count)?;
+        script.extend_from_slice(b"\nuser \"Ada\"\n")?;
+        expect_run(&rt, List::from(script), 4_096, &NEVER, b"user 1\n", 0)?;
+    }
+    let mut too_long = Vec::new(rt.alloc());
+    push_comment(&mut too_long, 131_073)?;
+    let written = b"bad line 1 column 131073\n";
     expect_run(&rt, List::from(too_long), 4_096, &NEVER, written, 2)
 }
 
-#[test]
-fn a_script_may_have_67108864_bytes(rt: HostRuntime) -> Result<(), Fail> {
-    let alloc = rt.alloc();
-    let mut script = Vec::new(alloc);
-    script.extend_from_slice(b"user \"Ada\"\n")?;
-    for _ in 0..1_024 {
-        push_repeated(&mut script, b'#', 65_535)?;
+// The most bytes that a script may have: comments, and a request without its line feed as the last ten.
+fn longest_script(alloc: Global) -> Result<Vec<u8>, AllocError> {
+    let mut script = Vec::with_capacity(alloc, 67_108_865)?;
+    for _ in 0..1_023 {
+        push_comment(&mut script, 65_535)?;
         script.push(b'\n')?;
     }
-    let written = "user 1\nscript too long\n";
-    expect_run(&rt, List::from(script), 4_096, &NEVER, written, 9)
+    push_comment(&mut script, 65_525)?;
+    script.extend_from_slice(b"\nuser \"Ada\"")?;
+    Ok(script)
+}
+
+#[test]
+fn a_script_of_67108864_bytes_is_played_to_its_end(rt: HostRuntime) -> Result<(), Fail> {
+    let script = longest_script(rt.alloc())?;
+    assert_eq!(rt; script.len(), 67_108_864);
+    expect_run(&rt, List::from(script), 4_096, &NEVER, b"user 1\n", 0)
+}
+
+#[test]
+fn a_script_of_67108865_bytes_is_too_long(rt: HostRuntime) -> Result<(), Fail> {
+    let mut script = longest_script(rt.alloc())?;
+    script.push(b'\n')?;
+    expect_run(
+        &rt,
+        List::from(script),
+        4_096,
+        &NEVER,
+        b"script too long\n",
+        9,
+    )
 }

@@ -66,55 +66,8 @@ fn replies_have_their_texts(rt: HostRuntime) -> Result<(), Fail> {
         entries: 1,
         dropped: 0,
     };
-    expect_text(&rt, Reply::Answer(Answer::User(UserId(1))), "user 1\n")?;
-    expect_text(
-        &rt,
-        Reply::Answer(Answer::Channel(ChannelId(1))),
-        "channel 1\n",
-    )?;
-    expect_text(&rt, Reply::Answer(Answer::Group(GroupId(1))), "group 1\n")?;
-    expect_text(&rt, Reply::Answer(Answer::Done), "ok\n")?;
-    expect_text(&rt, Reply::Answer(sent), "sent 1 deal 0\n")?;
-    expect_text(&rt, Reply::Mail(mailed), "mailed 2 entries=1 dropped=0\n")?;
-    expect_text(
-        &rt,
-        Reply::Mail(MailAnswer::NotDue(Some(220))),
-        "not due 220\n",
-    )?;
-    expect_text(&rt, Reply::Mail(MailAnswer::NotDue(None)), "not due -\n")?;
-    expect_text(&rt, Reply::Refused(Refusal::NoUser), "refused 10\n")?;
-    expect_text(
-        &rt,
-        Reply::Refused(Refusal::TooMany { limit: 10_000 }),
-        "refused 23 limit 10000\n",
-    )?;
-    expect_text(&rt, Reply::Refused(Refusal::BadName), "refused 25\n")?;
-    expect_text(&rt, Reply::KeeperFault, "fault keeper\n")?;
-    expect_text(&rt, Reply::OutOfMemory, "out of memory\n")
-}
-
-#[test]
-fn counts_have_their_texts(rt: HostRuntime) -> Result<(), Fail> {
-    let none = Counts {
+    let counts = Counts {
         flight: 0,
-        held: 0,
-        ready: 0,
-        handed: 0,
-        read: 0,
-        deleted: 0,
-        off: 0,
-        live: 0,
-        entries: 0,
-        waiting: 0,
-        written: 0,
-    };
-    expect_text(
-        &rt,
-        Reply::Audit(none),
-        "audit flight=0 held=0 ready=0 handed=0 read=0 deleted=0 off=0 live=0 entries=0 waiting=0 written=0\n",
-    )?;
-    let many = Counts {
-        flight: u64::MAX,
         held: 1,
         ready: 4,
         handed: 6,
@@ -126,19 +79,72 @@ fn counts_have_their_texts(rt: HostRuntime) -> Result<(), Fail> {
         waiting: 9,
         written: 10,
     };
-    expect_text(
-        &rt,
-        Reply::Audit(many),
-        "audit flight=18446744073709551615 held=1 ready=4 handed=6 read=3 deleted=7 off=8 live=2 entries=5 waiting=9 written=10\n",
-    )
+    let rows = [
+        (Reply::Answer(Answer::User(UserId(1))), "user 1\n"),
+        (Reply::Answer(Answer::Channel(ChannelId(1))), "channel 1\n"),
+        (Reply::Answer(Answer::Group(GroupId(1))), "group 1\n"),
+        (Reply::Answer(Answer::Done), "ok\n"),
+        (Reply::Answer(sent), "sent 1 deal 0\n"),
+        (Reply::Mail(mailed), "mailed 2 entries=1 dropped=0\n"),
+        (Reply::Mail(MailAnswer::NotDue(Some(220))), "not due 220\n"),
+        (Reply::Mail(MailAnswer::NotDue(None)), "not due -\n"),
+        (
+            Reply::Audit(counts),
+            "audit flight=0 held=1 ready=4 handed=6 read=3 deleted=7 off=8 live=2 entries=5 waiting=9 written=10\n",
+        ),
+        (Reply::Refused(Refusal::NoUser), "refused 10\n"),
+        (
+            Reply::Refused(Refusal::TooMany { limit: 10_000 }),
+            "refused 23 limit 10000\n",
+        ),
+        (Reply::Refused(Refusal::BadName), "refused 25\n"),
+        (Reply::KeeperFault, "fault keeper\n"),
+        (Reply::OutOfMemory, "out of memory\n"),
+    ];
+    for (reply, text) in rows {
+        expect_text(&rt, &reply, text)?;
+    }
+    Ok(())
+}
+
+// A reply that is longer than what waits at a time.
+#[test]
+fn a_long_reply_is_written_in_pieces(rt: HostRuntime) -> Result<(), Fail> {
+    let most = u64::MAX;
+    let counts = Counts {
+        flight: most,
+        held: most,
+        ready: most,
+        handed: most,
+        read: most,
+        deleted: most,
+        off: most,
+        live: most,
+        entries: most,
+        waiting: most,
+        written: most,
+    };
+    let front =
+        "audit flight=18446744073709551615 held=18446744073709551615 ready=18446744073709551615 handed=18446744073709551615 read=";
+    let alloc = rt.alloc();
+    let text = format!(in alloc;
+        "{front}{most} deleted={most} off={most} live={most} entries={most} waiting={most} written={most}\n"
+    )?;
+    expect_text(&rt, &Reply::Audit(counts), text.as_str())?;
+    let mut failing = List::new(alloc);
+    failing.push(2)?;
+    let mut sink = MemorySink::new(alloc, 320, failing)?;
+    assert_eq!(rt; write_reply(&mut sink, &Reply::Audit(counts)), Err(Failed));
+    assert_eq!(rt; sink.bytes(), front.as_bytes());
+    Ok(())
 }
 
 // The reply has this text, printed and written.
-fn expect_text<R: Abort + AllocGlobal>(rt: &R, reply: Reply, text: &str) -> Result<(), Fail> {
-    let printed = print_reply(rt.alloc(), &reply)?;
+fn expect_text<R: Abort + AllocGlobal>(rt: &R, reply: &Reply, text: &str) -> Result<(), Fail> {
+    let printed = print_reply(rt.alloc(), reply)?;
     assert_eq!(rt; printed.as_str(), text);
     let mut sink = MemorySink::new(rt.alloc(), 320, List::new(rt.alloc()))?;
-    assert_eq!(rt; write_reply(&mut sink, &reply), Ok(()));
+    assert_eq!(rt; write_reply(&mut sink, reply), Ok(()));
     assert_eq!(rt; sink.bytes(), text.as_bytes());
     Ok(())
 }
@@ -161,30 +167,31 @@ fn last_lines_have_their_texts(rt: HostRuntime) -> Result<(), Fail> {
 
 #[test]
 fn bad_lines_have_their_columns(rt: HostRuntime) -> Result<(), Fail> {
-    expect_bad(&rt, b"at", 3);
-    expect_bad(&rt, b"hello", 1);
-    expect_bad(&rt, b"user \"Ada", 6);
-    expect_bad(&rt, b"send 1 one \"a\" \"x\"", 8);
-    expect_bad(&rt, b"at 137438953472\n", 4);
-    expect_bad(&rt, b"at 1 2\r\n", 6);
-    expect_bad(&rt, b"user \"a\"x\n", 6);
-    expect_bad(&rt, b" # x\n", 2);
-    expect_bad(&rt, b"user \"\xff\"\n", 7);
-    expect_bad(&rt, b"sub 1 2 yes\n", 9);
-    expect_bad(&rt, b"group \"ops\" 2,\n", 13);
-    expect_bad(&rt, b"group \"ops\"\n", 12);
-    expect_bad(&rt, b"group \"ops\" 1, 2\n", 13);
-    expect_bad(&rt, b"member 1 2\n", 11);
-    expect_bad(&rt, b"member 1 2 on off\n", 15);
-    expect_bad(&rt, b"audit now\n", 7);
-    Ok(())
-}
-
-fn expect_bad<R: Abort + AllocGlobal>(rt: &R, bytes: &[u8], column: Column) {
-    match read_line(rt.alloc(), bytes) {
-        Err(LineFault::BadLine { column: found }) => assert_eq!(rt; found, column),
-        _ => panic!(rt; "the line was read"),
+    let rows: [(&[u8], Column); 16] = [
+        (b"at", 3),
+        (b"hello", 1),
+        (b"user \"Ada", 6),
+        (b"send 1 one \"a\" \"x\"", 8),
+        (b"at 137438953472\n", 4),
+        (b"at 1 2\r\n", 6),
+        (b"user \"a\"x\n", 6),
+        (b" # x\n", 2),
+        (b"user \"\xff\"\n", 7),
+        (b"sub 1 2 yes\n", 9),
+        (b"group \"ops\" 2,\n", 13),
+        (b"group \"ops\"\n", 12),
+        (b"group \"ops\" 1, 2\n", 13),
+        (b"member 1 2\n", 11),
+        (b"member 1 2 on off\n", 15),
+        (b"audit now\n", 7),
+    ];
+    for (bytes, column) in rows {
+        match read_line(rt.alloc(), bytes) {
+            Err(fault) => assert_eq!(rt; fault, LineFault::BadLine { column }),
+            Ok(_) => panic!(rt; "the line was read"),
+        }
     }
+    Ok(())
 }
 
 #[test]
@@ -195,22 +202,6 @@ fn lines_are_read(rt: HostRuntime) -> Result<(), Fail> {
     assert!(rt; matches!(&read_line(alloc, b" mail "), Ok(Line::Mail)));
     assert!(rt; matches!(&read_line(alloc, b"audit\n"), Ok(Line::Audit)));
     Ok(())
-}
-
-#[test]
-fn a_moment_is_read(rt: HostRuntime) -> Result<(), Fail> {
-    match read_line(rt.alloc(), b"at 007\r\n") {
-        Ok(line) => assert_eq!(rt; seconds_of(line), Some(7)),
-        Err(_) => panic!(rt; "the line was not read"),
-    }
-    Ok(())
-}
-
-fn seconds_of(line: Line) -> Option<u64> {
-    match line {
-        Line::At(moment) => Some(moment.seconds()),
-        _ => None,
-    }
 }
 
 #[test]
@@ -246,19 +237,6 @@ fn a_group_is_read_with_its_list_as_written(rt: HostRuntime) -> Result<(), Fail>
             assert_eq!(rt; name.as_str(), "ops");
             let written = [UserId(2), UserId(1), UserId(2)];
             assert_eq!(rt; members.as_slice(), written.as_slice());
-            Ok(())
-        }
-        _ => panic!(rt; "the line was not read"),
-    }
-}
-
-#[test]
-fn a_membership_is_read(rt: HostRuntime) -> Result<(), Fail> {
-    match read_line(rt.alloc(), b"member 3 2 off\n") {
-        Ok(Line::Asked(Request::Member { group, user, on })) => {
-            assert_eq!(rt; group, GroupId(3));
-            assert_eq!(rt; user, UserId(2));
-            assert_eq!(rt; on, false);
             Ok(())
         }
         _ => panic!(rt; "the line was not read"),

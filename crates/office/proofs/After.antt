@@ -17,13 +17,14 @@ use Rattle.chat_model.specs.declared.ids.ChannelId.{ChannelId}
 use Rattle.chat_model.specs.declared.ids.GroupId.{GroupId}
 use Rattle.chat_model.specs.declared.trigger.Way.{Way}
 use Rattle.chat_model.specs.declared.trigger.Way.TheVariants.{Mail, Push}
-use Rattle.notice_ledger.specs.Journal.{occurrence}
-use Rattle.notice_ledger.specs.Values.{numbered, Person, person_of, people, named_from, user_names, is_one_of, group_of, groups, named_groups_from, group_names, is_group, membership_change, is_member, channel_of, channels, is_user, is_channel, SentMessage, message_of, messages, subscription_change, subscribed}
-use Rattle.notice_ledger.specs.Owed.{Notice, waiting, owed_by, is_mail_turn_of, is_turn_of}
-use Rattle.notice_ledger.specs.Outbox.{outbox, entries_by}
-use Rattle.notice_ledger.specs.Refusals.{Rule, rule, first_broken, name_rules, rules_of, refusal, is_taken, most_items}
+use Rattle.notice_ledger.specs.Past.Journal.{occurrence}
+use Rattle.notice_ledger.specs.Past.Values.{numbered, Person, person_of, people, named_from, user_names, is_one_of, group_of, groups, named_groups_from, group_names, is_group, membership_change, is_member, channel_of, channels, is_user, is_channel, SentMessage, message_of, messages, subscription_change, subscribed}
+use Rattle.notice_ledger.specs.Past.Owed.{Notice, waiting, owed_by, is_mail_turn_of, is_turn_of}
+use Rattle.notice_ledger.specs.Past.Outbox.{outbox, entries_by}
+use Rattle.notice_ledger.specs.Past.Refusals.{Rule, rule, first_broken, name_rules, rules_of, refusal, is_taken}
+use Rattle.notice_ledger.specs.Limits.{most_items}
 use Rattle.notice_ledger.specs.InOrder.{is_ascending, is_in_order}
-use Rattle.notice_ledger.specs.Lawful.{may_stand}
+use Rattle.notice_ledger.specs.Past.Lawful.{may_stand}
 use Rattle.notice_ledger.proofs.Lists.{filter_all}
 use Rattle.notice_ledger.proofs.Appended.{people-nil, people-append, groups-nil, groups-append, is_member-nil, is_member-append, channels-nil, channels-append, messages-nil, messages-append, subscribed-nil, subscribed-append, outbox-nil, outbox-append}
 use Rattle.notice_ledger.proofs.Waiting.{is_turn, waiting-nil, waiting-append}

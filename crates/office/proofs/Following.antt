@@ -28,13 +28,14 @@ use Rattle.chat_model.specs.declared.trigger.Trigger.TheVariants.{Mention}
 use Rattle.chat_model.specs.declared.trigger.Way.{Way}
 use Rattle.chat_model.specs.declared.trigger.Way.TheVariants.{Mail, Push}
 use Rattle.chat_model.specs.Settings.{default_settings}
-use Rattle.notice_ledger.specs.Journal.{occurrence}
-use Rattle.notice_ledger.specs.Values.{numbered, Person, people, named_from, user_name, named_groups_from, groups, is_one_of, is_member, member_count, channels, channel_name, user_names, users, is_bot, messages, SentMessage, subscribed, deal_count}
-use Rattle.notice_ledger.specs.Triggers.{mentions_of, is_mentioned, smaller, came_by, trigger}
-use Rattle.notice_ledger.specs.Owed.{Notice, same_way, waiting, notice_of, owed_by, is_turn_of, is_mail_turn_of}
-use Rattle.notice_ledger.specs.Due.{batch_rows}
-use Rattle.notice_ledger.specs.Outbox.{outbox, named_group, mail_entry, mail_entries}
-use Rattle.notice_ledger.specs.Rows.{outbox_rows_from, waiting_row}
+use Rattle.notice_ledger.specs.Past.Journal.{occurrence}
+use Rattle.notice_ledger.specs.Past.Values.{numbered, Person, people, named_from, user_name, named_groups_from, groups, is_one_of, is_member, member_count, channels, channel_name, user_names, users, is_bot, messages, SentMessage, subscribed, deal_count}
+use Rattle.notice_ledger.specs.Past.Triggers.{mentions_of, is_mentioned, smaller, came_by, trigger}
+use Rattle.notice_ledger.specs.Past.Owed.{Notice, same_way, waiting, notice_of, owed_by, is_turn_of, is_mail_turn_of}
+use Rattle.notice_ledger.specs.Past.Due.{batch_rows}
+use Rattle.notice_ledger.specs.Past.Outbox.{outbox, named_group, mail_entry, mail_entries}
+use Rattle.notice_ledger.specs.Past.Rows.{outbox_rows_from}
+use Rattle.notice_ledger.proofs.RowKeys.{notice_key}
 use Rattle.notice_ledger.proofs.Lists.{filter_none}
 use Rattle.notice_ledger.proofs.Appended.{outbox-append}
 use Rattle.notice_ledger.proofs.Ascending.{AllByRecursion-filter}
@@ -42,9 +43,9 @@ use Rattle.notice_ledger.proofs.Batches.{is_mail_of, filter_same, by_message-bat
 use Rattle.notice_ledger.proofs.Sent.{IsOfMessage, waiting-messages, deal_count-messages}
 use Rattle.office.specs.declared.tables.Waiting.{Waiting}
 use Rattle.office.specs.declared.tables.Tables.{Tables}
-use Rattle.office.specs.Changes.{is_turn, notice_key, changes}
+use Rattle.office.proofs.Changes.{is_turn, waiting_row, changes}
 use Rattle.office.specs.Tables.{StandsFor, message_kept, notice_kept, named_group_in, is_mail_to, entry_from, entry_in, entries_in, answer_in}
-use Rattle.office.specs.Office.{answer_of}
+use Rattle.office.specs.Office.{answer_after}
 use Rattle.office.specs.Prepared.{notice_row, key_of_notice, is_bot_in, is_mentioned_in, notifies, smaller_in, via_in, next_notice, new_notices, mentions_in, changes_in}
 use Rattle.office.specs.UserSets.{has_in, size_in}
 use Rattle.office.proofs.Standing.{numbered-map, filter-map, filter_map-map, filter_map-given, name_in-user_name, channel_name_in-channel_name, named_group_in-named_group, size_in-member_count, ids-user_names}
@@ -294,13 +295,13 @@ module _ (t : Tables) (j : List Stamped) (stands : StandsFor t j) where
   channels_long : length t.channels.items ≡ length (channels j)
   channels_long = ap length stands.channels
 
-  pub answer_in-answer_of : (r : Request) → answer_in t r ≡ answer_of j r
-  answer_in-answer_of (AddUser name bot) = ap (λ n. answer.User (record { 0 = n + 1 })) names_long
-  answer_in-answer_of (AddGroup name members) = ap (λ n. answer.Group (record { 0 = n + 1 })) groups_long
-  answer_in-answer_of (Member group user on) = refl
-  answer_in-answer_of (AddChannel name) = ap (λ n. answer.Channel (record { 0 = n + 1 })) channels_long
-  answer_in-answer_of (Subscribe user channel on) = refl
-  answer_in-answer_of (Send sender channel topic text) =
+  pub answer_in-answer_after : (r : Request) → answer_in t r ≡ answer_after j r
+  answer_in-answer_after (AddUser name bot) = ap (λ n. answer.User (record { 0 = n + 1 })) names_long
+  answer_in-answer_after (AddGroup name members) = ap (λ n. answer.Group (record { 0 = n + 1 })) groups_long
+  answer_in-answer_after (Member group user on) = refl
+  answer_in-answer_after (AddChannel name) = ap (λ n. answer.Channel (record { 0 = n + 1 })) channels_long
+  answer_in-answer_after (Subscribe user channel on) = refl
+  answer_in-answer_after (Send sender channel topic text) =
       ap (λ n. answer.Sent (record { 0 = n + 1 }) (record { 0 = n })) messages_long
       ∙ ap (λ d. answer.Sent (record { 0 = length (messages j) + 1 }) (record { 0 = d })) (sym (deal_count-messages j))
 

@@ -1,3 +1,5 @@
+pub mod Changes
+pub mod PendingRows
 pub mod RowsAfter
 pub mod Steps
 pub mod TableSteps

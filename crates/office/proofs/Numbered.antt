@@ -1,7 +1,7 @@
 -- Lists numbered from 1, and a list with one element changed.
 use Rattle.std.proofs.Common.{◌≡◌, ◌≢◌, ℕ, zero, suc, ◌-◌, ◌<◌, ◌≤◌, List, [], ◌∷◌, length, map, get_or, set, refl, ap, arith}
 use Rattle.std.specs.Prelude.{Some, None, slice_get}
-use Rattle.notice_ledger.specs.Values.{numbered}
+use Rattle.notice_ledger.specs.Past.Values.{numbered}
 use Rattle.office.specs.UserSets.{changed_at, changed_numbered}
 
 pub numbered-from_zero : {A : Type 0} (n : ℕ) (xs : List A) → n ≢ 0 → numbered n xs ≡ slice_get xs (n - 1)

@@ -1,21 +1,28 @@
 -- What keeps an office one: the same contents, and a lawful event that was kept and followed.
-use Rattle.std.proofs.Common.{◌≡◌, ℕ, Bool, true, false, ◌&&◌, List, [], ◌∷◌, ◌++◌, Option, Some, None, max, refl, sym, ap, ◌∙◌, arith}
+use Rattle.std.proofs.Common.{◌≡◌, ℕ, ◌≤◌, Bool, true, false, ◌&&◌, ◌==◌, List, [], ◌∷◌, ◌++◌, Option, Some, None, max, refl, sym, ap, ◌∙◌, arith}
 use Rattle.std.specs.Prelude.{IfSome, option_map, nat_le}
+use Rattle.std.specs.Option.{option_map_or}
+use Rattle.std.proofs.lemmas.Bool.{eq-eqb}
 use Rattle.std.proofs.lemmas.Bool.Decides.{nat_tests}
 use Rattle.chat_model.specs.declared.event.Stamped.{Stamped}
-use Rattle.chat_model.specs.declared.event.Event.TheVariants.{Asked}
+use Rattle.chat_model.specs.declared.event.Event.TheVariants.{Restart, Asked, MailTurn}
+use Rattle.chat_model.specs.declared.ids.UserId.{UserId}
 use Rattle.chat_model.specs.declared.request.Request.{Request}
 use Rattle.chat_model.specs.declared.request.Refusal.{Refusal}
 use Rattle.chat_model.specs.declared.row.RowChange.{RowChange}
 use Rattle.chat_model.specs.Rows.{changed_all}
 use Rattle.keeper.specs.declared.keeper.Kept.{Kept}
 use Rattle.keeper.specs.Kept.{committed}
-use Rattle.notice_ledger.specs.Journal.{stamp, last_stamp}
-use Rattle.notice_ledger.specs.Refusals.{refusal}
+use Rattle.notice_ledger.specs.Journal.{stamp}
+use Rattle.notice_ledger.specs.Past.Journal.{last_stamp}
+use Rattle.notice_ledger.specs.Refusals as any
+use Rattle.notice_ledger.specs.Due.{DueUser, first_due}
 use Rattle.notice_ledger.specs.InOrder.{in_order}
 use Rattle.notice_ledger.proofs.InOrder.{in_order-may_stand}
-use Rattle.notice_ledger.specs.Rows.{rows}
-use Rattle.notice_ledger.specs.Lawful.{is_lawful_after, may_stand}
+use Rattle.notice_ledger.specs.Past.Rows.{rows}
+use Rattle.notice_ledger.specs.Lawful.{lawful, IsLawful, is_lawful_after}
+use Rattle.notice_ledger.specs.Past.Lawful as past
+use Rattle.notice_ledger.specs.Past.Lawful.{may_stand}
 use Rattle.notice_ledger.proofs.LawfulLemmas.{IsLawful-nil, IsLawful-append}
 use Rattle.office.specs.declared.tables.Tables.{Tables}
 use Rattle.office.specs.declared.prepared.Effect.{Effect}
@@ -54,11 +61,12 @@ second true b h = h
 second false b h = absurd (cc)
 
 -- what is kept stands for the journal with the event, once the event's changes are kept
-kept_after : (told : Option Kept) (j : List Stamped) (s : Stamped) (t : Tables) (cs : List RowChange) → StandsFor t j → cs ≡ changes_in t s.at s.event → IfSome told (KeptStandsFor j) → IfSome (option_map (committed s cs) told) (KeptStandsFor (j ++ s ∷ []))
-kept_after None j s t cs stands are kept = tt
-kept_after (Some k) j s t cs stands are kept = (
+kept_after : (told : Option Kept) (j : List Stamped) (s : Stamped) (t : Tables) (cs : List RowChange) → IsLawful j → is_lawful_after j s ≡ true → StandsFor t j → cs ≡ changes_in t s.at s.event → IfSome told (KeptStandsFor j) → IfSome (option_map (committed s cs) told) (KeptStandsFor (j ++ s ∷ []))
+kept_after None j s t cs is_lawful next stands are kept = tt
+kept_after (Some k) j s t cs is_lawful next stands are kept = (
   ap (λ x. x ++ s ∷ []) kept.0,
-  ap (changed_all cs) kept.1 ∙ (ap (λ x. changed_all x (rows j)) (are ∙ changes_in-changes t j stands s.at s.event) ∙ sym (rows-append j s)),
+  ap (changed_all cs) (kept.1 ∙ ap rows is_lawful)
+      ∙ (ap (λ x. changed_all x (rows j)) (are ∙ changes_in-changes t j stands s.at s.event) ∙ (sym (rows-append j s) ∙ ap rows (sym (IsLawful-append j s is_lawful next)))),
 )
 
 -- a lawful event that was prepared, kept and made
@@ -66,13 +74,13 @@ pub office_after : (old mid new : Tables) (j : List Stamped) (s : Stamped) (told
     → cs ≡ changes_in old s.at s.event → Fits old s.at s.event e → IsApplied old mid effect.Nothing → IsApplied mid new e → IsOffice (option_map (committed s cs) told) (j ++ s ∷ []) new
 office_after old mid new j s told cs e next office are fits reserved applied = record {
   lawful = IsLawful-append j s office.lawful next;
-  tables = stands_after old new j office.tables s.at s.event e (second (nat_le (last_stamp j) s.at) (may_stand j s.at s.event) next) fits (through old mid new e reserved applied);
-  kept = kept_after told j s old cs office.tables are office.kept;
+  tables = stands_after old new j office.tables s.at s.event e (second (nat_le (last_stamp j) s.at) (may_stand j s.at s.event) (sym (ap (λ k. past.is_lawful_after k s) office.lawful) ∙ next)) fits (through old mid new e reserved applied);
+  kept = kept_after told j s old cs office.lawful next office.tables are office.kept;
 }
 
 empty_kept : (told : Option Kept) (loaded : Kept) → IfSome told (λ k. loaded ≡ k) → loaded.journal ≡ [] → loaded.rows ≡ [] → IfSome told (KeptStandsFor [])
 empty_kept None loaded same journal rows = tt
-empty_kept (Some k) loaded same no_event no_row = (ap (λ (x : Kept). x.journal) (sym same) ∙ no_event, ap (λ (x : Kept). x.rows) (sym same) ∙ (no_row ∙ sym rows-nil))
+empty_kept (Some k) loaded same no_event no_row = (ap (λ (x : Kept). x.journal) (sym same) ∙ no_event, ap (λ (x : Kept). x.rows) (sym same) ∙ (no_row ∙ (sym rows-nil ∙ ap rows (sym IsLawful-nil))))
 
 -- an office before its first event, over what was loaded empty
 pub empty_office : (told : Option Kept) (loaded : Kept) (t : Tables) → StandsFor t [] → IfSome told (λ k. loaded ≡ k) → loaded.journal ≡ [] → loaded.rows ≡ [] → IsOffice told [] t
@@ -82,15 +90,29 @@ empty_office told loaded t stands same no_event no_row = record {
   kept = empty_kept told loaded same no_event no_row;
 }
 
--- a request that is not refused is lawful once its lists are in order, at a stamp that is not below the last one
-pub asked_lawful : (j : List Stamped) (now at : ℕ) (r : Request) → refusal j r ≡ None → at ≡ stamp j now → is_lawful_after j (record { at = at; event = Asked (in_order r) }) ≡ true
-asked_lawful j now at r granted stamped = both (nat_le (last_stamp j) at) (may_stand j at (Asked (in_order r))) (not_below (last_stamp j) now at stamped) (in_order-may_stand j at r granted)
-  where
-    both : (a b : Bool) → a ≡ true → b ≡ true → (a && b) ≡ true
-    both a b h k = rw (h, k)
+both_hold : (a b : Bool) → a ≡ true → b ≡ true → (a && b) ≡ true
+both_hold a b h k = rw (h, k)
 
-    not_below : (last now at : ℕ) → at ≡ max now last → nat_le last at ≡ true
-    not_below last now at e = grind (arith, nat_tests)
+not_below : (last now at : ℕ) → at ≡ max now last → nat_le last at ≡ true
+not_below last now at e = grind (arith, nat_tests)
+
+-- a request that is not refused is lawful once its lists are in order, at a stamp that is not below the last one
+pub asked_lawful : (j : List Stamped) (now at : ℕ) (r : Request) → any.refusal j r ≡ None → at ≡ stamp j now → is_lawful_after j (record { at = at; event = Asked (in_order r) }) ≡ true
+asked_lawful j now at r granted stamped =
+    both_hold (nat_le (last_stamp (lawful j)) at) (may_stand (lawful j) at (Asked (in_order r))) (not_below (last_stamp (lawful j)) now at stamped) (in_order-may_stand (lawful j) at r granted)
+
+due_now : (u : UserId) (at : ℕ) (d : DueUser) → d.user ≡ u → d.due ≤ at → (d.user.0 == u.0 && nat_le d.due at) ≡ true
+due_now u at d e h = both_hold (d.user.0 == u.0) (nat_le d.due at) (eq-eqb d.user.0 u.0 (ap (λ (v : UserId). v.0) e)) (grind (arith, nat_tests))
+
+-- the mail turn of the user with the least due moment is lawful once it is due
+pub turn_lawful : (j : List Stamped) (now at : ℕ) (u : UserId) (d : DueUser) → first_due j ≡ Some d → d.user ≡ u → d.due ≤ at → at ≡ stamp j now → is_lawful_after j (record { at = at; event = MailTurn u }) ≡ true
+turn_lawful j now at u d first e h stamped =
+    both_hold (nat_le (last_stamp (lawful j)) at) (may_stand (lawful j) at (MailTurn u)) (not_below (last_stamp (lawful j)) now at stamped)
+    (ap (λ o. option_map_or (λ d. d.user.0 == u.0 && nat_le d.due at) o false) first ∙ due_now u at d e h)
+
+-- a restart is lawful as the first event
+pub restart_lawful : (j : List Stamped) (at : ℕ) → j ≡ [] → is_lawful_after j (record { at = at; event = Restart }) ≡ true
+restart_lawful j at e = ap (λ k. is_lawful_after k (record { at = at; event = Restart })) e ∙ (ap (λ k. past.is_lawful_after k (record { at = at; event = Restart })) IsLawful-nil ∙ both_hold (nat_le 0 at) true (grind (arith, nat_tests)) refl)
 
 pub no_refusal : (o : Option Refusal) → ((n : Refusal) → o ≡ Some n → ⊥) → o ≡ None
 no_refusal None h = refl

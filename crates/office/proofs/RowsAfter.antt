@@ -20,25 +20,21 @@ use Rattle.chat_model.specs.declared.row.RowChange.TheVariants.{Put, Remove}
 use Rattle.chat_model.specs.Rows.{key_cmp, key_of, row_at, changed_all, IsAscending}
 use Rattle.chat_model.proofs.Keys.{same_key}
 use Rattle.chat_model.proofs.Rows.{row_after, row_after_all, row_at-changed_all, row_after_all-append, IsAscending-changed_all, IsAscending-nil, same_rows}
-use Rattle.notice_ledger.specs.Journal.{occurrence}
+use Rattle.notice_ledger.specs.Past.Journal.{occurrence}
 use Rattle.chat_model.specs.Settings.{default_settings}
-use Rattle.notice_ledger.specs.Values.{Person, person_of, people, SentMessage, sent_by, messages, settings}
-use Rattle.notice_ledger.specs.Owed.{Notice, notices, owed_by, waiting, is_turn_of}
-use Rattle.notice_ledger.specs.Outbox.{outbox, entries_by}
-use Rattle.notice_ledger.specs.Rows.{user_rows_from, message_rows_from, outbox_rows_from, pending_row, waiting_row, unordered_rows, in_key_order, rows}
+use Rattle.notice_ledger.specs.Past.Values.{Person, person_of, people, SentMessage, sent_by, messages, settings}
+use Rattle.notice_ledger.specs.Past.Owed.{Notice, notices, owed_by, waiting, is_turn_of}
+use Rattle.notice_ledger.specs.Past.Outbox.{outbox, entries_by}
+use Rattle.notice_ledger.specs.Past.Rows.{user_rows_from, message_rows_from, outbox_rows_from, pending_row, listed_rows, by_key, rows}
 use Rattle.notice_ledger.proofs.Lists.{AllByRecursion-append}
 use Rattle.notice_ledger.proofs.Appended.{people-nil, people-append, messages-nil, messages-append, notices-nil, outbox-nil, outbox-append}
 use Rattle.notice_ledger.proofs.Waiting.{waiting-append}
-use Rattle.notice_ledger.proofs.Batches.{pending_rows-waiting}
-use Rattle.office.specs.Changes.{new_user_rows, new_message_rows, notice_key, is_turn, pending_changes, new_outbox_rows, changes}
+use Rattle.notice_ledger.proofs.RowKeys.{table, equal_from, other_key, notice_key}
+use Rattle.notice_ledger.proofs.RowOrder.{rows-ascending, rows-changed_all}
+use Rattle.office.proofs.Changes.{new_user_rows, new_message_rows, waiting_row, is_turn, pending_changes, new_outbox_rows, changes}
+use Rattle.office.proofs.PendingRows.{pending_rows-waiting}
 
 -- ---- tables
-
-abbrev pub table : RowKey → ℕ
-table (key.User user) = 0
-table (key.Message message) = 1
-table (key.Pending user message way) = 2
-table (key.Outbox number) = 3
 
 abbrev pub change_key : RowChange → RowKey
 change_key (Put row) = key_of row
@@ -47,18 +43,6 @@ change_key (Remove k) = k
 -- changes of rows of one table
 abbrev pub AreOf : ℕ → List RowChange → Type 0
 AreOf t changes = AllByRecursion (λ c. table (change_key c) ≡ t) changes
-
-pub equal_from : (o : Ordering) → is_eq o ≡ true → o ≡ Equal
-equal_from Less h = absurd (cc)
-equal_from Equal h = refl
-equal_from Greater h = absurd (cc)
-
-pub other_key : (a k : RowKey) → table a ≢ table k → is_eq (key_cmp a k) ≡ false
-other_key a k other =
-    elim (is_eq (key_cmp a k)) as (λ b. is_eq (key_cmp a k) ≡ b → b ≡ false) [
-      | true ↦ λ e. absurd (other (ap table (same_key a k (equal_from (key_cmp a k) e))))
-      | false ↦ λ e. refl
-    ] refl
 
 untouched_by : (k : RowKey) (c : RowChange) (x : Option Row) → table (change_key c) ≢ table k → row_after k c x ≡ x
 untouched_by k (Put row) x other = ap (λ b. cond b (Some row) x) (other_key (key_of row) k other)
@@ -316,7 +300,7 @@ pending_after k j s =
     ∙ sym (row_after_all-append k (map (λ n. Remove (notice_key n)) (filter (is_turn s.event) (waiting j))) (map (λ n. Put (waiting_row n)) owed) (row_after_all k (map Put (map waiting_row (waiting j))) None))))))
 
 -- the puts of a journal's rows, table by table
-table_puts : (j : List Stamped) → map Put (unordered_rows j) ≡ map Put (user_rows_from j 1 (people j)) ++ (map Put (message_rows_from 1 (messages j)) ++ (map Put (map waiting_row (waiting j)) ++ map Put (outbox_rows_from 1 (outbox j))))
+table_puts : (j : List Stamped) → map Put (listed_rows j) ≡ map Put (user_rows_from j 1 (people j)) ++ (map Put (message_rows_from 1 (messages j)) ++ (map Put (map waiting_row (waiting j)) ++ map Put (outbox_rows_from 1 (outbox j))))
 table_puts j =
     let us = user_rows_from j 1 (people j) in let ms = message_rows_from 1 (messages j) in let ps = map waiting_row (waiting j) in let os = outbox_rows_from 1 (outbox j) in
     ap (λ rs. map Put (us ++ (ms ++ (rs ++ os)))) (pending_rows-waiting j)
@@ -340,11 +324,11 @@ changes_are j s = record {
 
 -- what stands at a key in the rows of a journal
 row_at-rows : (k : RowKey) (j : List Stamped) → row_at k (rows j) ≡ row_after_all k (own k (map Put (user_rows_from j 1 (people j))) (map Put (message_rows_from 1 (messages j))) (map Put (map waiting_row (waiting j))) (map Put (outbox_rows_from 1 (outbox j)))) None
-unfolding rows
 row_at-rows k j =
-    row_at-changed_all k (map Put (unordered_rows j)) []
+    ap (row_at k) (rows-changed_all j)
+    ∙ (row_at-changed_all k (map Put (listed_rows j)) []
     ∙ (ap (λ cs. row_after_all k cs None) (table_puts j)
-    ∙ own_changes k (map Put (user_rows_from j 1 (people j))) (map Put (message_rows_from 1 (messages j))) (map Put (map waiting_row (waiting j))) (map Put (outbox_rows_from 1 (outbox j))) None (tables_are j))
+    ∙ own_changes k (map Put (user_rows_from j 1 (people j))) (map Put (message_rows_from 1 (messages j))) (map Put (map waiting_row (waiting j))) (map Put (outbox_rows_from 1 (outbox j))) None (tables_are j)))
 
 -- at a key the new rows are the old with the changes of its own table
 own_after : (k : RowKey) (j : List Stamped) (s : Stamped) → row_after_all k (own k (map Put (user_rows_from (j ++ s ∷ []) 1 (people (j ++ s ∷ [])))) (map Put (message_rows_from 1 (messages (j ++ s ∷ [])))) (map Put (map waiting_row (waiting (j ++ s ∷ [])))) (map Put (outbox_rows_from 1 (outbox (j ++ s ∷ []))))) None
@@ -360,11 +344,6 @@ own_after (key.Outbox n) j s =
     ap (λ rs. row_after_all (key.Outbox n) rs None) (ap (map Put) (outbox_after j s) ∙ puts_append (outbox_rows_from 1 (outbox j)) (new_outbox_rows j s))
     ∙ row_after_all-append (key.Outbox n) (map Put (outbox_rows_from 1 (outbox j))) (map Put (new_outbox_rows j s)) None
 
--- a journal's rows ascend
-pub rows-ascending : (j : List Stamped) → IsAscending (rows j)
-unfolding rows
-rows-ascending j = IsAscending-changed_all (map Put (unordered_rows j)) [] IsAscending-nil
-
 -- the rows after an event are the rows before it with its changes
 pub rows-append : (j : List Stamped) (s : Stamped) → rows (j ++ s ∷ []) ≡ changed_all (changes j s) (rows j)
 rows-append j s =
@@ -377,9 +356,9 @@ rows-append j s =
 -- the empty journal has no rows
 pub rows-nil : rows [] ≡ []
 unfolding rows
-rows-nil = ap in_key_order (none_yet)
+rows-nil = ap by_key (none_yet)
   where
-    none_yet : unordered_rows [] ≡ []
+    none_yet : listed_rows [] ≡ []
     none_yet =
         ap (λ us. us ++ (message_rows_from 1 (messages []) ++ (filter_map (pending_row []) (notices []) ++ outbox_rows_from 1 (outbox [])))) (ap (user_rows_from [] 1) people-nil)
         ∙ (ap (λ ms. ms ++ (filter_map (pending_row []) (notices []) ++ outbox_rows_from 1 (outbox []))) (ap (message_rows_from 1) messages-nil)

@@ -10,7 +10,7 @@ use Rattle.std.proofs.lemmas.List.Folds.{list_any-append}
 use Rattle.std.proofs.lemmas.List.Sums.{sum_by-cons}
 use Rattle.chat_model.specs.declared.event.Stamped.{Stamped}
 use Rattle.chat_model.specs.declared.ids.UserId.{UserId}
-use Rattle.notice_ledger.specs.Values.{numbered, people, is_user, is_one_of}
+use Rattle.notice_ledger.specs.Past.Values.{numbered, people, is_user, is_one_of}
 use Rattle.notice_ledger.specs.InOrder.{is_ascending}
 use Rattle.notice_ledger.proofs.InOrder.{ascending-distinct, ascending-rest}
 use Rattle.office.specs.declared.user_set.UserSet.{UserSet}

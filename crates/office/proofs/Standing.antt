@@ -14,12 +14,14 @@ use Rattle.chat_model.specs.declared.mentions.GroupName.{GroupName}
 use Rattle.chat_model.specs.declared.request.Request.{Request}
 use Rattle.chat_model.specs.declared.request.Request.TheVariants.{AddUser, AddGroup, Member, AddChannel, Subscribe, Send}
 use Rattle.chat_model.specs.declared.request.Refusal.TheVariants.{NoUser, NoChannel, NoGroup, Exists, NotSubscribed, EmptyText, TextTooLong, TopicTooLong, TooMany}
-use Rattle.notice_ledger.specs.Values.{numbered, Person, people, named_from, user_names, user_name, users, is_user, named_groups_from, groups, group_names, group_name, is_group, is_member, member_count, channels, is_channel, channel_name, subscribed, subscriber_count}
-use Rattle.notice_ledger.specs.Outbox.{named_group}
-use Rattle.notice_ledger.specs.Owed.{waiting}
-use Rattle.notice_ledger.specs.Due.{DueUser, due, due_user, first_due, sooner}
-use Rattle.notice_ledger.specs.Refusals.{Rule, rule, first_broken, name_rules, rules_of, refusal, is_taken, is_blank, is_longer_than, longest_text, longest_topic, most_items}
-use Rattle.notice_ledger.specs.Audit.{counts_of}
+use Rattle.notice_ledger.specs.Past.Values.{numbered, Person, people, named_from, user_names, user_name, users, is_user, named_groups_from, groups, group_names, group_name, is_group, is_member, member_count, channels, is_channel, channel_name, subscribed, subscriber_count}
+use Rattle.notice_ledger.specs.Past.Outbox.{named_group}
+use Rattle.notice_ledger.specs.Past.Owed.{waiting}
+use Rattle.notice_ledger.specs.Past.Due.{DueUser, due, due_user, first_due, sooner}
+use Rattle.notice_ledger.specs.Past.Refusals.{Rule, rule, first_broken, name_rules, rules_of, refusal, is_taken}
+use Rattle.notice_ledger.specs.Texts.{is_blank, is_longer_than}
+use Rattle.notice_ledger.specs.Limits.{longest_text, longest_topic, most_items}
+use Rattle.notice_ledger.specs.Past.Audit.{counts_of}
 use Rattle.notice_ledger.proofs.Batches.{is_mail_of, due-waiting}
 use Rattle.notice_ledger.proofs.Sums.{sum_by_same}
 use Rattle.notice_ledger.proofs.Audited.{counts_of-waiting}

@@ -8,8 +8,8 @@ use Rattle.std.proofs.lemmas.List.Elements.{filter_map-append}
 use Rattle.chat_model.specs.declared.entry.Entry.{Entry}
 use Rattle.chat_model.specs.declared.ids.UserId.{UserId}
 use Rattle.chat_model.specs.declared.mentions.UserName.{UserName}
-use Rattle.notice_ledger.specs.Values.{numbered}
-use Rattle.notice_ledger.specs.Due.{DueUser, sooner}
+use Rattle.notice_ledger.specs.Past.Values.{numbered}
+use Rattle.notice_ledger.specs.Past.Due.{DueUser, sooner}
 use Rattle.office.specs.declared.tables.DueUser.{DueUser as FoundDue}
 use Rattle.office.specs.declared.tables.Message.{Message}
 use Rattle.office.specs.declared.tables.Waiting.{Waiting}

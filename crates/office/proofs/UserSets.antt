@@ -7,7 +7,7 @@ use Rattle.std.proofs.lemmas.Bool.{eqb-true}
 use Rattle.std.proofs.lemmas.Bool.Decides.{nat_tests, eqb_tells}
 use Rattle.std.proofs.lemmas.List.Folds.{list_any-append}
 use Rattle.chat_model.specs.declared.ids.UserId.{UserId}
-use Rattle.notice_ledger.specs.Values.{numbered, is_one_of}
+use Rattle.notice_ledger.specs.Past.Values.{numbered, is_one_of}
 use Rattle.office.specs.declared.user_set.UserSet.{UserSet}
 use Rattle.office.specs.UserSets.{users_in, has_in, size_in, users_after, changed_at, changed_numbered}
 use Rattle.office.proofs.Standing.{numbered-map}

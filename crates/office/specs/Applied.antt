@@ -4,7 +4,7 @@ use Rattle.chat_model.specs.declared.entry.Entry.{Entry}
 use Rattle.chat_model.specs.declared.ids.UserId.{UserId}
 use Rattle.chat_model.specs.declared.mentions.UserName.{UserName}
 use Rattle.chat_model.specs.declared.mentions.GroupName.{GroupName}
-use Rattle.notice_ledger.specs.Values.{numbered}
+use Rattle.notice_ledger.specs.Past.Values.{numbered}
 use Rattle.office.specs.declared.tables.Message.{Message}
 use Rattle.office.specs.declared.tables.Waiting.{Waiting}
 use Rattle.office.specs.declared.tables.Tables.{Tables}

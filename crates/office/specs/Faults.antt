@@ -1,4 +1,5 @@
--- A keeper's fault as the office's.
+-- A keeper's fault as the office's, and what an answer says of the keeper's count of faults.
+use Rattle.std.specs.Prelude.{ℕ, Result, Err}
 use Rattle.keeper.specs.declared.keeper.KeepFault.{KeepFault}
 use Rattle.keeper.specs.declared.keeper.KeepFault.TheVariants as keeps
 use Rattle.office.specs.declared.answer.StepFault.{StepFault}
@@ -22,3 +23,17 @@ ask_fault step.OutOfMemory = ask.OutOfMemory
 abbrev pub start_fault : StepFault → StartFault
 start_fault step.KeeperFault = start.KeeperFault
 start_fault step.OutOfMemory = start.OutOfMemory
+
+-- how many faults of the keeper an answer tells of: one where the keeper failed, else none; the same at a step, at a
+-- request and at a start
+abbrev pub faults_in_step : {T : Type 0} → Result T StepFault → ℕ
+faults_in_step (Err step.KeeperFault) = 1
+faults_in_step _ = 0
+
+abbrev pub faults_in_ask : {T : Type 0} → Result T AskFault → ℕ
+faults_in_ask (Err ask.KeeperFault) = 1
+faults_in_ask _ = 0
+
+abbrev pub faults_in_start : StartFault → ℕ
+faults_in_start start.KeeperFault = 1
+faults_in_start _ = 0

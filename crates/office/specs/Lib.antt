@@ -1,4 +1,3 @@
-pub mod Changes
 pub mod UserSets
 pub mod Tables
 pub mod Prepared

@@ -7,11 +7,11 @@ use Rattle.chat_model.specs.declared.request.Request.TheVariants.{AddUser, AddGr
 use Rattle.chat_model.specs.declared.request.Answer.{Answer}
 use Rattle.chat_model.specs.declared.request.Answer.TheVariants as answer
 use Rattle.keeper.specs.declared.keeper.Kept.{Kept}
-use Rattle.notice_ledger.specs.Values.{people, groups, channels, messages, deal_count}
+use Rattle.notice_ledger.specs.Past.Values.{people, groups, channels, messages, deal_count}
 use Rattle.notice_ledger.specs.Due.{DueUser, batch_rows, first_due}
 use Rattle.notice_ledger.specs.Outbox.{mail_entries}
 use Rattle.notice_ledger.specs.Rows.{rows}
-use Rattle.notice_ledger.specs.Lawful.{IsLawful}
+use Rattle.notice_ledger.specs.Lawful.{lawful, IsLawful}
 use Rattle.office.specs.declared.answer.MailAnswer.{MailAnswer}
 use Rattle.office.specs.declared.answer.MailAnswer.TheVariants.{Mailed, NotDue}
 use Rattle.office.specs.declared.tables.Tables.{Tables}
@@ -22,7 +22,7 @@ pub record OfficeSeen (K : Type 0) : Type 0 where
   pub journal : List Stamped
   pub keeper : K
 
--- what is kept stands for the journal: it is the journal, and its rows are the journal's
+-- what is kept stands for a list of events: the kept journal is the list, and the kept rows are the list's
 abbrev pub KeptStandsFor : List Stamped → Kept → Type 0
 KeptStandsFor j kept = (kept.journal ≡ j) × (kept.rows ≡ rows j)
 
@@ -32,14 +32,18 @@ pub record IsOffice (told : Option Kept) (j : List Stamped) (t : Tables) : Type 
   pub tables : StandsFor t j
   pub kept : IfSome told (KeptStandsFor j)
 
--- the answer to a request that is not refused
+-- the answer to a request that is not refused, behind events that all count
+abbrev pub answer_after : List Stamped → Request → Answer
+answer_after j (AddUser name bot) = answer.User (record { 0 = length (people j) + 1 })
+answer_after j (AddGroup name members) = answer.Group (record { 0 = length (groups j) + 1 })
+answer_after j (Member group user on) = answer.Done
+answer_after j (AddChannel name) = answer.Channel (record { 0 = length (channels j) + 1 })
+answer_after j (Subscribe user channel on) = answer.Done
+answer_after j (Send sender channel topic text) = answer.Sent (record { 0 = length (messages j) + 1 }) (record { 0 = deal_count j })
+
+-- the answer to a request that is not refused, after any list of events
 abbrev pub answer_of : List Stamped → Request → Answer
-answer_of j (AddUser name bot) = answer.User (record { 0 = length (people j) + 1 })
-answer_of j (AddGroup name members) = answer.Group (record { 0 = length (groups j) + 1 })
-answer_of j (Member group user on) = answer.Done
-answer_of j (AddChannel name) = answer.Channel (record { 0 = length (channels j) + 1 })
-answer_of j (Subscribe user channel on) = answer.Done
-answer_of j (Send sender channel topic text) = answer.Sent (record { 0 = length (messages j) + 1 }) (record { 0 = deal_count j })
+answer_of j request = answer_after (lawful j) request
 
 -- no due moment is at most the stamp
 abbrev pub NoneIsDue : List Stamped → ℕ → Type 0

@@ -22,8 +22,8 @@ use Rattle.chat_model.specs.declared.entry.Entry.{Entry}
 use Rattle.chat_model.specs.declared.trigger.Trigger.TheVariants.{Mention}
 use Rattle.chat_model.specs.declared.trigger.Way.{Way}
 use Rattle.chat_model.specs.declared.trigger.Way.TheVariants.{Mail, Push}
-use Rattle.notice_ledger.specs.Values.{numbered, is_one_of}
-use Rattle.notice_ledger.specs.Rows.{outbox_rows_from}
+use Rattle.notice_ledger.specs.Past.Values.{numbered, is_one_of}
+use Rattle.notice_ledger.specs.Past.Rows.{outbox_rows_from}
 use Rattle.office.specs.declared.tables.Message.{Message}
 use Rattle.office.specs.declared.tables.Waiting.{Waiting}
 use Rattle.office.specs.declared.tables.Tables.{Tables}

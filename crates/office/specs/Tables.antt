@@ -20,13 +20,15 @@ use Rattle.chat_model.specs.declared.request.Answer.TheVariants as answer
 use Rattle.chat_model.specs.declared.request.Refusal.{Refusal}
 use Rattle.chat_model.specs.declared.request.Refusal.TheVariants.{NoUser, NoChannel, NoGroup, Exists, NotSubscribed, EmptyText, TextTooLong, TopicTooLong, TooMany}
 use Rattle.chat_model.specs.declared.trigger.Way.TheVariants as ways
-use Rattle.notice_ledger.specs.Values.{numbered, SentMessage, people, user_names, groups, group_names, is_member, channels, messages, subscribed}
-use Rattle.notice_ledger.specs.Triggers.{came_by}
-use Rattle.notice_ledger.specs.Refusals.{Rule, rule, first_broken, name_rules, is_blank, is_longer_than, longest_text, longest_topic, most_items}
-use Rattle.notice_ledger.specs.Owed.{Notice, waiting, same_way}
-use Rattle.notice_ledger.specs.Due.{DueUser, sooner}
-use Rattle.notice_ledger.specs.Outbox.{outbox}
-use Rattle.notice_ledger.specs.Audit.{in_64_bits}
+use Rattle.notice_ledger.specs.Past.Values.{numbered, SentMessage, people, user_names, groups, group_names, is_member, channels, messages, subscribed}
+use Rattle.notice_ledger.specs.Past.Triggers.{came_by}
+use Rattle.notice_ledger.specs.Past.Refusals.{Rule, rule, first_broken, name_rules}
+use Rattle.notice_ledger.specs.Texts.{is_blank, is_longer_than}
+use Rattle.notice_ledger.specs.Limits.{longest_text, longest_topic, most_items}
+use Rattle.notice_ledger.specs.Past.Owed.{Notice, waiting, same_way}
+use Rattle.notice_ledger.specs.Past.Due.{DueUser, sooner}
+use Rattle.notice_ledger.specs.Past.Outbox.{outbox}
+use Rattle.notice_ledger.specs.Past.Audit.{in_64_bits}
 use Rattle.office.specs.declared.tables.Message.{Message}
 use Rattle.office.specs.declared.tables.Waiting.{Waiting}
 use Rattle.office.specs.declared.tables.DueUser.{DueUser as FoundDue}

@@ -3,7 +3,7 @@ use Rattle.std.specs.Prelude.{◌≡◌, ℕ, zero, suc, ◌<◌, ◌≤◌, Boo
 use Rattle.std.specs.List.{AllByRecursion}
 use Rattle.std.specs.Option.{option_map_or}
 use Rattle.chat_model.specs.declared.ids.UserId.{UserId}
-use Rattle.notice_ledger.specs.Values.{numbered, is_one_of}
+use Rattle.notice_ledger.specs.Past.Values.{numbered, is_one_of}
 use Rattle.office.specs.declared.user_set.UserSet.{UserSet}
 
 -- the users of a set

@@ -1,14 +1,16 @@
 //! The office: it adds lawful events to the journal, keeps them, and follows them with its tables.
-ghost use Rattle.std.specs.Prelude.{◌≡◌, ℕ, ◌+◌, ◌≤◌, ◌<◌, ◌↔◌, [], ◌∷◌, ◌++◌, length, true, max, IfOk, IfErr, IfSome, OnOk, OnErr, Some, None, List, option_map};
+ghost use Rattle.std.specs.Prelude.{◌≡◌, ℕ, ◌+◌, ◌≤◌, ◌<◌, ◌↔◌, [], ◌∷◌, ◌++◌, length, true, max, IfOk, IfErr, IfSome, OnOk, OnErr, Option, Some, None, List, option_map, is_some};
 ghost use Rattle.chat_model.specs.Counts.{HasRisen};
 ghost use Rattle.chat_model.specs.declared.event.Event.TheVariants.{Restart, Asked};
 ghost use Rattle.chat_model.specs.declared.request.Refusal.{Refusal};
-ghost use Rattle.notice_ledger.specs.Journal.{stamp, last_stamp};
+ghost use Rattle.notice_ledger.specs.Past.Journal as past;
+ghost use Rattle.notice_ledger.specs.Journal.{stamp};
 ghost use Rattle.notice_ledger.specs.Refusals.{refusal};
 ghost use Rattle.notice_ledger.specs.InOrder.{in_order};
 ghost use Rattle.notice_ledger.specs.Lawful.{IsLawful, is_lawful_after};
 ghost use Rattle.notice_ledger.specs.Conserved.{IsConserved};
 ghost use Rattle.office.specs.Office.{IsOffice, KeptStandsFor};
+ghost use Rattle.office.specs.Faults.{faults_in_step, faults_in_ask, faults_in_start};
 
 use crate::tables::{DueUser, Tables};
 use crate::{AskFault, MailAnswer, StartFault, StepFault};
@@ -50,8 +52,10 @@ fn record_event<K: Keeper>(
     ensures ok { OnOk result (journal.new.items ≡ journal.old.items ++ stamped ∷ []) }
     ensures err { OnErr result (journal.new.items ≡ journal.old.items) }
     ensures kept { OnErr result (K.kept keeper.new ≡ K.kept keeper.old) }
+    ensures told { is_some (K.kept keeper.new) ≡ is_some (K.kept keeper.old) }
     ensures fault { IfErr result (λ e. e ≡ StepFault.KeeperFault → HasRisen (K.faults keeper.old) (K.faults keeper.new)) }
     ensures counted { K.faults keeper.old ≤ K.faults keeper.new }
+    ensures most { K.faults keeper.new ≤ K.faults keeper.old + faults_in_step result }
 {
     let prepared = tables.prepare(&stamped)?;
     tables.reserve(&prepared.effect)?;
@@ -60,6 +64,16 @@ fn record_event<K: Keeper>(
     tables.apply(prepared.effect);
     journal.push_reserved(stamped);
     Ok(())
+}
+
+/// The greater of a moment and the stamp of the last of these events.
+fn stamp_after(journal: &[Stamped], now: Moment) -> Moment
+    ensures { result ≡ past.stamp journal.now now }
+{
+    match journal.last() {
+        Some(last) if now < last.at => last.at,
+        _ => now,
+    }
 }
 
 impl<K: Keeper> Office<K> {
@@ -77,8 +91,10 @@ impl<K: Keeper> Office<K> {
         ensures err { IfErr result (λ e. K.kept e.1 ≡ K.kept keeper) }
         ensures fault { IfErr result (λ e. e.0 ≡ StartFault.KeeperFault → HasRisen (K.faults keeper) (K.faults e.1)) }
         ensures not_empty { IfErr result (λ e. e.0 ≡ StartFault.NotEmpty → IfSome (K.kept keeper) (λ kept. 0 < length kept.journal + length kept.rows)) }
-        ensures counted_ok { IfOk result (λ o. K.faults keeper ≤ K.faults o.keeper) }
+        ensures told { IfOk result (λ o. is_some (K.kept o.keeper) ≡ is_some (K.kept keeper)) }
+        ensures counted_ok { IfOk result (λ o. K.faults o.keeper ≡ K.faults keeper) }
         ensures counted_err { IfErr result (λ e. K.faults keeper ≤ K.faults e.1) }
+        ensures most { IfErr result (λ e. K.faults e.1 ≤ K.faults keeper + faults_in_start e.0) }
     {
         let mut keeper = keeper;
         let kept = match keeper.load() {
@@ -132,10 +148,7 @@ impl<K: Keeper> Office<K> {
     fn stamp(&self, now: Moment) -> Moment
         ensures { result ≡ stamp self.now.journal now }
     {
-        match self.journal.last() {
-            Some(last) if now < last.at => last.at,
-            _ => now,
-        }
+        stamp_after(&self.journal, now)
     }
 
     /// Why the request is refused.
@@ -179,8 +192,10 @@ impl<K: Keeper> Office<K> {
         ensures ok { OnOk result (self.new.journal ≡ self.old.journal ++ stamped ∷ []) }
         ensures err { OnErr result (self.new.journal ≡ self.old.journal) }
         ensures kept { OnErr result (K.kept self.new.keeper ≡ K.kept self.old.keeper) }
+        ensures told { is_some (K.kept self.new.keeper) ≡ is_some (K.kept self.old.keeper) }
         ensures fault { IfErr result (λ e. e ≡ StepFault.KeeperFault → HasRisen (K.faults self.old.keeper) (K.faults self.new.keeper)) }
         ensures counted { K.faults self.old.keeper ≤ K.faults self.new.keeper }
+        ensures most { K.faults self.new.keeper ≤ K.faults self.old.keeper + faults_in_step result }
     {
         record_event(
             &mut self.keeper,
@@ -196,9 +211,12 @@ impl<K: Keeper> Office<K> {
         ensures granted { IfOk result (λ a. (a ≡ answer_of self.old.journal request)
             × (self.new.journal ≡ self.old.journal ++ record { at = stamp self.old.journal now; event = Asked (in_order request) } ∷ [])) }
         ensures refused { (n : Refusal) → (result ≡ Err (AskFault.Refused n)) ↔ (refusal self.old.journal request ≡ Some n) }
+        ensures unchanged { (n : Refusal) → result ≡ Err (AskFault.Refused n) → self.new ≡ self.old }
         ensures err { OnErr result ((self.new.journal ≡ self.old.journal) × (K.kept self.new.keeper ≡ K.kept self.old.keeper)) }
+        ensures told { is_some (K.kept self.new.keeper) ≡ is_some (K.kept self.old.keeper) }
         ensures fault { IfErr result (λ e. e ≡ AskFault.KeeperFault → HasRisen (K.faults self.old.keeper) (K.faults self.new.keeper)) }
         ensures counted { K.faults self.old.keeper ≤ K.faults self.new.keeper }
+        ensures most { K.faults self.new.keeper ≤ K.faults self.old.keeper + faults_in_ask result }
     {
         if let Some(refusal) = self.refusal(&request) {
             return Err(AskFault::Refused(refusal));
@@ -215,9 +233,12 @@ impl<K: Keeper> Office<K> {
         ensures answered { IfOk result (λ a. IsMailTurn self.old.journal (stamp self.old.journal now) a self.new.journal) }
         // Where nothing is due it takes no memory, so the answer is promised.
         ensures not_due { NoneIsDue self.old.journal (stamp self.old.journal now) → result ≡ Ok (MailAnswer.NotDue (least_due self.old.journal)) }
+        ensures unchanged { IfOk result (λ a. (least : Option ℕ) → a ≡ MailAnswer.NotDue least → self.new ≡ self.old) }
         ensures err { OnErr result ((self.new.journal ≡ self.old.journal) × (K.kept self.new.keeper ≡ K.kept self.old.keeper)) }
+        ensures told { is_some (K.kept self.new.keeper) ≡ is_some (K.kept self.old.keeper) }
         ensures fault { IfErr result (λ e. e ≡ StepFault.KeeperFault → HasRisen (K.faults self.old.keeper) (K.faults self.new.keeper)) }
         ensures counted { K.faults self.old.keeper ≤ K.faults self.new.keeper }
+        ensures most { K.faults self.new.keeper ≤ K.faults self.old.keeper + faults_in_step result }
     {
         let at = self.stamp(now);
         let Some(first) = self.first_due() else {

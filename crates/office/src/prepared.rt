@@ -1,6 +1,6 @@
 //! What an event will change, made ready before it is committed.
 ghost use Rattle.std.specs.Prelude.{◌≡◌, ◌+◌, ◌^◌, ◌<◌, ◌++◌, map, filter, length, IfOk, OnOk};
-ghost use Rattle.notice_ledger.specs.Rows.{outbox_rows_from};
+ghost use Rattle.notice_ledger.specs.Past.Rows.{outbox_rows_from};
 ghost use Rattle.chat_model.specs.declared.row.RowChange.TheVariants.{Put, Remove};
 ghost use Rattle.chat_model.specs.declared.event.Event.TheVariants.{Asked, MailTurn};
 ghost use Rattle.chat_model.specs.declared.request.Request.TheVariants.{AddUser, AddGroup, Send};

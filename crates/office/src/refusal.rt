@@ -1,7 +1,8 @@
 //! Why a request is refused: its rules are tested in the order of the refusals' numbers.
 ghost use Rattle.std.specs.Prelude.{◌≡◌, Bool};
 ghost use Rattle.std.specs.List.{list_all};
-ghost use Rattle.notice_ledger.specs.Refusals.{first_broken, name_rules, longest_text, longest_topic, longest_name, most_items};
+ghost use Rattle.notice_ledger.specs.Past.Refusals.{first_broken, name_rules};
+ghost use Rattle.notice_ledger.specs.Limits.{longest_text, longest_topic, longest_name, most_items};
 ghost use Rattle.office.specs.Tables.{has_user, is_taken_group, is_taken_channel, refusal_in};
 
 use crate::tables::Tables;

@@ -1,9 +1,9 @@
 //! The tables that follow from the journal, and what a look-up reads in them.
 ghost use Rattle.std.specs.Prelude.{◌≡◌, ℕ, ◌+◌, ◌==◌, List, [], ◌<◌, ◌≤◌, find, filter, length, option_map, IfOk};
 ghost use Rattle.std.specs.Option.{option_copied, option_map_or};
-ghost use Rattle.notice_ledger.specs.Values.{numbered};
+ghost use Rattle.notice_ledger.specs.Past.Values.{numbered};
 ghost use Rattle.office.specs.Tables.{is_mail_to, found_due};
-ghost use Rattle.notice_ledger.specs.Due.{sooner};
+ghost use Rattle.notice_ledger.specs.Past.Due.{sooner};
 
 use crate::user_set::UserSet;
 use chat_model::{

@@ -278,7 +278,9 @@ fn a_message_to_more_than_ten_thousand_subscribers_is_refused(rt: HostRuntime) -
 }
 
 #[test]
-fn a_failed_commit_is_a_fault_and_changes_nothing(rt: HostRuntime) -> Result<(), Fail> {
+fn a_failed_commit_leaves_the_journal_the_counts_and_what_is_kept(
+    rt: HostRuntime,
+) -> Result<(), Fail> {
     let alloc = rt.alloc();
     let mut failing = List::new(alloc);
     failing.push(8)?;
@@ -286,12 +288,21 @@ fn a_failed_commit_is_a_fault_and_changes_nothing(rt: HostRuntime) -> Result<(),
     let mut office = team(&rt, alloc, failing)?;
     let fault = office.ask(send(alloc, 1, 1)?, moment(&rt, 100));
     assert_eq!(rt; fault, Err(AskFault::KeeperFault));
+    assert_eq!(rt; office.journal().len(), 6);
+    assert_eq!(rt; office.audit(), counts(0, 0));
     let sent = office.ask(send(alloc, 1, 1)?, moment(&rt, 100));
     let message = MessageId(1);
     let deal = DealNo(0);
     assert_eq!(rt; sent, Ok(Answer::Sent { message, deal }));
     let turn = office.mail_turn(moment(&rt, 220));
     assert_eq!(rt; turn, Err(StepFault::KeeperFault));
+    assert_eq!(rt; office.journal().len(), 7);
+    assert_eq!(rt; office.audit(), counts(2, 0));
+    let mut keeper = office.close();
+    match keeper.load() {
+        Ok(kept) => assert_eq!(rt; kept.journal.len(), 7),
+        Err(_) => panic!(rt; "what is kept was not loaded"),
+    }
     Ok(())
 }
 

@@ -1,7 +1,7 @@
 //! Users who stand together, each once: the subscribers of a channel, or the members of a group.
 ghost use Rattle.std.specs.Prelude.{◌≡◌, ◌<◌, true, map, IfSome, OnOk};
 ghost use Rattle.std.specs.Vec.{vec_len, vec_capacity};
-ghost use Rattle.notice_ledger.specs.Values.{numbered, is_one_of};
+ghost use Rattle.notice_ledger.specs.Past.Values.{numbered, is_one_of};
 ghost use Rattle.office.specs.UserSets.{users_in, has_in, size_in, users_after, changed_numbered, HasPlace};
 
 use crate::tables::item_at;

@@ -1,11 +1,11 @@
-use Rattle.std.proofs.Common.{◌≡◌, ◌+◌, ◌∙◌, ◌≤◌, Some, ap, arith, drop, false, length}
+use Rattle.std.proofs.Common.{◌≡◌, ◌+◌, ◌∙◌, ◌≤◌, Some, ap, arith, drop, length}
 use Rattle.std.proofs.lemmas.List.{take_rest}
-use Rattle.mention_scan.specs.Division.{run_place}
+use Rattle.mention_scan.specs.Division.{nearest_run}
 use Rattle.mention_scan.proofs.Runs.{code-length, run_part-fits}
 use Rattle.mention_scan.proofs.line.run_part_length.Goals as goal
 
-place-in_Some : (c : goal.In-Some) → Some c.in-Some.inside ≡ run_place false c.args.run (drop c.args.run c.args.bytes.now)
-place-in_Some c = c.in-Some.ensures ∙ ap (run_place false c.args.run) (take_rest c.args.bytes.now c.args.run)
+place-in_Some : (c : goal.In-Some) → Some c.in-Some.inside ≡ nearest_run c.args.run (drop c.args.run c.args.bytes.now)
+place-in_Some c = c.in-Some.ensures ∙ ap (nearest_run c.args.run) (take_rest c.args.bytes.now c.args.run)
 
 code-fits : (c : goal.In-Some) → c.args.run + (c.in-Some.inside + c.args.run) ≤ length c.args.bytes.now
 code-fits c =

@@ -1,5 +1,5 @@
 use Rattle.std.proofs.Common.{◌≡◌, ◌+◌, drop}
-use Rattle.mention_scan.specs.Division.{run_of}
+use Rattle.mention_scan.specs.Fences.{run_of}
 use Rattle.mention_scan.proofs.run.run_of.Given as goal
 
 abbrev pub invariant-loop-i : goal.invariant-loop-i

@@ -1,7 +1,7 @@
 use Rattle.std.proofs.Common.{rules, tests}
 use Rattle.std.proofs.lemmas.Iterator.{YieldsList-from_chars}
 use Rattle.std.proofs.lemmas.Iterator.Search.{any_from_yields_List}
-use Rattle.notice_ledger.specs.Refusals.{is_forbidden}
+use Rattle.notice_ledger.specs.Texts.{is_forbidden}
 use Rattle.notice_ledger.proofs.rules.has_forbidden.Goals as goal
 
 pub returns : goal.returns

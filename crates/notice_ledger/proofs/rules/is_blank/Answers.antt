@@ -2,7 +2,7 @@ use Rattle.std.proofs.Common.{rules, tests}
 use Rattle.std.specs.Char.{is_whitespace}
 use Rattle.std.proofs.lemmas.Iterator.{YieldsList-from_chars}
 use Rattle.std.proofs.lemmas.Iterator.Search.{all_from_yields_List}
-use Rattle.notice_ledger.specs.Refusals.{is_blank}
+use Rattle.notice_ledger.specs.Texts.{is_blank}
 use Rattle.notice_ledger.proofs.rules.is_blank.Goals as goal
 
 pub returns : goal.returns

@@ -1,7 +1,7 @@
 use Rattle.std.proofs.Common.{ap, nat_lt}
 use Rattle.std.proofs.lemmas.Iterator.{YieldsList-from_chars}
 use Rattle.std.proofs.lemmas.Iterator.Consumers.{count_from_yields_List}
-use Rattle.notice_ledger.specs.Refusals.{is_longer_than}
+use Rattle.notice_ledger.specs.Texts.{is_longer_than}
 use Rattle.notice_ledger.proofs.rules.is_longer_than.Goals as goal
 
 pub returns : goal.returns

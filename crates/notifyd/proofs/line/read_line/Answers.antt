@@ -1,6 +1,8 @@
-use Rattle.std.proofs.Common.{◌≤◌, length, IsUtf8, ap, subst, arith}
-use Rattle.notifyd.specs.Grammar.{body_of, max_line}
-use Rattle.notifyd.proofs.LineLemmas.{length-content_of, IsUtf8-content_of, reading-content}
+use Rattle.std.proofs.Common.{◌≤◌, length, IfErr, IsUtf8, ap, subst, arith}
+use Rattle.std.proofs.lemmas.Result.{MatchResult-weaker}
+use Rattle.notifyd.specs.Fault.{MatchesFault}
+use Rattle.notifyd.specs.Grammar.{content_reading, body_of, max_line}
+use Rattle.notifyd.proofs.LineLemmas.{length-content_of, IsUtf8-content_of, reading-content, MatchesFault-from_test}
 use Rattle.notifyd.proofs.line.read_line.Goals as goal
 
 pub read_content-requires-clause-small : goal.read_content-requires-clause-small
@@ -21,4 +23,5 @@ pub returns-clause-err : goal.returns-clause-err
 returns-clause-err c =
     let short : length (body_of c.args.bytes.now) ≤ max_line = omega (arith, ap length c.body_of-body.ensures) in
     let same = reading-content c.args.bytes.now short (subst IsUtf8 c.body_of-body.ensures c.in_default.ensures.cases.1) in
-    rw (same, ← c.content_of.ensures) c.read_content.ensures.err
+    let err : IfErr c.read_content.result (MatchesFault (content_reading c.content_of.result.now)) = MatchResult-weaker c.read_content.result c.read_content.ensures.err (λ x ok. ok) (λ fault test. MatchesFault-from_test (content_reading c.content_of.result.now) fault test) in
+    rw (same, ← c.content_of.ensures) err

@@ -3,7 +3,7 @@ use Rattle.std.proofs.lemmas.List.{append_assoc, length-take, map-append}
 use Rattle.chat_model.specs.declared.row.Row.TheVariants.{Outbox}
 use Rattle.chat_model.specs.declared.row.RowChange.TheVariants.{Put}
 use Rattle.chat_model.specs.declared.entry.Entry.{Entry}
-use Rattle.notice_ledger.specs.Rows.{outbox_rows_from}
+use Rattle.notice_ledger.specs.Past.Rows.{outbox_rows_from}
 use Rattle.std.specs.Prelude.{false}
 use Rattle.office.proofs.RowsAfter.{outbox_rows-append}
 use Rattle.office.proofs.TableSteps.{take_next}

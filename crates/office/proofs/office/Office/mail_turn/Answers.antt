@@ -3,9 +3,12 @@ use Rattle.chat_model.specs.declared.event.Stamped.{Stamped}
 use Rattle.chat_model.specs.declared.event.Event.TheVariants.{MailTurn}
 use Rattle.notice_ledger.specs.Journal.{stamp}
 use Rattle.notice_ledger.specs.Due.{batch_rows}
-use Rattle.notice_ledger.specs.Outbox.{outbox}
+use Rattle.notice_ledger.specs.Past.Outbox as past
+use Rattle.notice_ledger.specs.Lawful.{lawful}
+use Rattle.notice_ledger.proofs.LawfulLemmas.{lawful-next}
 use Rattle.office.specs.Tables.{found_due}
 use Rattle.office.proofs.Following.{mail_entries-long, outbox-mails}
+use Rattle.office.proofs.Offices.{turn_lawful}
 use Rattle.office.proofs.office.Office.mail_turn.Goals as goal
 use Rattle.office.proofs.office.Office.mail_turn.Goals.{After-entries}
 use Rattle.office.proofs.office.Office.mail_turn.Given.{Over}
@@ -13,10 +16,13 @@ use Rattle.office.proofs.office.Office.mail_turn.Given.{Over}
 -- the outbox grew by the batch rows
 grown : (g : Over) (c : After-entries g) → c.entries.result ≡ c.entries-before.result + c.batch_rows-rows.result
 grown g c =
+    let j = c.args.self.now.journal in let u = c.in-Some.first.user in
+    let event : Stamped = record { at = c.stamp-at.result; event = MailTurn u } in
+    let next = turn_lawful j c.args.now c.stamp-at.result u (found_due c.in-Some.first) (sym c.in-Some.ensures) refl (subst (λ n. c.in-Some.first.due ≤ n) c.seconds.ensures.value c.if-seconds-first.false) c.stamp-at.ensures in
     c.entries.ensures
-    ∙ (ap (λ (j : List Stamped). length (outbox j)) c.in_ok-record.ensures.ok
-    ∙ (outbox-mails c.args.self.now.journal c.stamp-at.result c.in-Some.first.user
-    ∙ (ap (λ n. n + length (batch_rows c.args.self.now.journal c.in-Some.first.user)) (sym c.entries-before.ensures) ∙ ap (λ n. c.entries-before.result + n) (sym c.batch_rows-rows.ensures))))
+    ∙ (ap (λ (k : List Stamped). length (past.outbox k)) (ap lawful c.in_ok-record.ensures.ok ∙ lawful-next j event next)
+    ∙ (outbox-mails (lawful j) c.stamp-at.result u
+    ∙ (ap (λ n. n + length (batch_rows j u)) (sym c.entries-before.ensures) ∙ ap (λ n. c.entries-before.result + n) (sym c.batch_rows-rows.ensures))))
 
 pub overflow_sub-entries : goal.overflow_sub-entries
 overflow_sub-entries g c = omega (arith, grown g c)
@@ -33,6 +39,6 @@ returns-clause-answered g c =
       record { first = sym c.in-Some.ensures; by_now = subst (λ n. c.in-Some.first.due ≤ n) (c.seconds.ensures.value ∙ c.stamp-at.ensures) c.if-seconds-first.false },
       refl,
       c.in_ok-record.ensures.ok ∙ ap (λ (n : ℕ). j ++ record { at = n; event = MailTurn u } ∷ []) c.stamp-at.ensures,
-      made ∙ (c.batch_rows-rows.ensures ∙ sym (mail_entries-long j (stamp j c.args.now) u)),
+      made ∙ (c.batch_rows-rows.ensures ∙ sym (mail_entries-long (lawful j) (stamp j c.args.now) u)),
       all ∙ c.batch_rows-rows.ensures,
     )

@@ -1,6 +1,6 @@
 use Rattle.std.proofs.Common.{List, [], ◌∷◌, ◌++◌, take, sym, ap, ◌∙◌}
 use Rattle.office.specs.declared.tables.Waiting.{Waiting}
-use Rattle.notice_ledger.specs.Values.{numbered}
+use Rattle.notice_ledger.specs.Past.Values.{numbered}
 use Rattle.std.specs.Prelude.{filter}
 use Rattle.std.specs.List.{filter_map}
 use Rattle.office.specs.Tables.{entry_in, is_mail_to}

@@ -1,7 +1,7 @@
 use Rattle.std.proofs.Common.{◌≡◌, take}
 use Rattle.std.specs.Prelude.{option_map}
 use Rattle.std.specs.List.{reduce, filter_map}
-use Rattle.notice_ledger.specs.Due.{sooner}
+use Rattle.notice_ledger.specs.Past.Due.{sooner}
 use Rattle.office.specs.Tables.{found_due, due_user_in}
 use Rattle.office.proofs.tables.Tables.first_due.Given as goal
 

@@ -1,0 +1,3 @@
+pub mod Ascents
+pub mod OrderlyLists
+pub mod Waiting

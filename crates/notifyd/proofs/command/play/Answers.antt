@@ -1,0 +1,7 @@
+use Rattle.std.proofs.Common.{refl, arith}
+use Rattle.notifyd.proofs.RunLemmas.{went_from}
+use Rattle.notifyd.proofs.command.play.Goals as goal
+
+pub returns-in-Ok-clause-went : goal.returns-in-Ok-clause-went
+returns-in-Ok-clause-went g c =
+    went_from g.K.Keeper.kept g.K.Keeper.faults c.args.keeper c.in-Ok.play c.read_all.result _ _ _ _ _ _ _ _ c.in-Ok.ensures.begun c.in-Ok.ensures.was_empty c.in-Ok.ensures.told c.in-Ok.ensures.counted c.read_all.ensures

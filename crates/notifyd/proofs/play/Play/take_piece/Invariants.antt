@@ -1,0 +1,8 @@
+use Rattle.std.proofs.Common.{◌+◌, take}
+use Rattle.notifyd.specs.Cut.{begun, cut_on}
+use Rattle.notifyd.specs.Going.{GoesOn, standing}
+use Rattle.notifyd.proofs.play.Play.take_piece.Given as goal
+
+abbrev pub invariant-loop-byte : goal.invariant-loop-byte
+invariant-loop-byte g l =
+    GoesOn g.K.Keeper.kept g.K.Keeper.faults (standing g.K.Keeper.kept g.K.Keeper.faults l.initial.play (g.O.Sink.written l.initial.out) (g.O.Sink.faults l.initial.out)) (cut_on (begun l.initial.play.under_way) (take l.byte-index l.piece)).lines (cut_on (begun l.initial.play.under_way) (take l.byte-index l.piece)).rest (l.initial.play.taken + l.byte-index) l.play (g.O.Sink.written l.out) (g.O.Sink.faults l.out)

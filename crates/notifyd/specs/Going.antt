@@ -1,0 +1,193 @@
+-- How a play goes on over lines and over what it reads, as the program's own functions say it to one another.
+use Rattle.std.specs.Prelude.{◌≡◌, ℕ, ◌+◌, ◌-◌, ◌<◌, ◌≤◌, ◌||◌, ◌⊎◌, List, [], ◌∷◌, ◌++◌, length, take, count_by, Option, IfSome, is_some, Err}
+use Rattle.std.specs.List.{list_any, flat_map}
+use Rattle.chat_model.specs.Counts.{HasRisen}
+use Rattle.keeper.specs.declared.keeper.Kept.{Kept}
+use Rattle.office.specs.Office.{KeptStandsFor}
+use Rattle.notifyd.specs.Grammar.{reading}
+use Rattle.notifyd.specs.Cut.{max_script, begun, cut_on, all_lines, last_line}
+use Rattle.notifyd.specs.World.{World}
+use Rattle.notifyd.specs.Play.{PlaysLines, HaveRisen, answer_text, is_keeper_fault, is_out_of_memory}
+use Rattle.notifyd.specs.Status.{KeptIsConserved}
+use Rattle.notifyd.specs.Run.{Gave, IsAtEnd, Wrote}
+use Rattle.notifyd.specs.Playing.{Playing}
+use Rattle.notifyd.specs.declared.reply.Reply.{Reply}
+use Rattle.notifyd.specs.declared.ending.Ending.{Ending}
+use Rattle.notifyd.specs.declared.ending.Ending.TheVariants.{InputEnded, BadLine, SourceFault, TooLong, SinkFault}
+use Rattle.notifyd.specs.declared.ending.Ended.{Ended}
+use Rattle.notifyd.specs.declared.ending.Met.{Met}
+use Rattle.notifyd.specs.declared.play.Next.{Next}
+use Rattle.notifyd.specs.declared.play.Next.TheVariants as next
+
+-- where a play stands: its world, what was met, how many lines were played, what is kept and what is written, where
+-- these are told, and how often the keeper and the sink failed
+pub record Standing : Type 0 where
+  pub world : World
+  pub met : Met
+  pub number : ℕ
+  pub kept : Option Kept
+  pub keeper_faults : ℕ
+  pub written : Option (List ℕ)
+  pub sink_faults : ℕ
+
+abbrev pub standing : {K : Type 0} → (K → Option Kept) → (K → ℕ) → Playing K → Option (List ℕ) → ℕ → Standing
+standing kept faults play written sink_faults = record {
+  world = play.world;
+  met = play.met;
+  number = play.number;
+  kept = kept play.keeper;
+  keeper_faults = faults play.keeper;
+  written = written;
+  sink_faults = sink_faults;
+}
+
+-- lines are played one after another, with these replies: what was met is met still, and the keeper's count rose by as
+-- many as the replies that are its faults
+pub record Plays (before : Standing) (lines : List (List ℕ)) (replies : List (Option Reply)) (after : Standing) : Type 0 where
+  pub played : PlaysLines before.world lines replies after.world
+  pub keeper_fault : after.met.keeper_fault ≡ (before.met.keeper_fault || list_any is_keeper_fault replies)
+  pub out_of_memory : after.met.out_of_memory ≡ (before.met.out_of_memory || list_any is_out_of_memory replies)
+  pub number : after.number ≡ before.number + length lines
+  pub tells : is_some after.kept ≡ is_some before.kept
+  pub counted : before.keeper_faults ≤ after.keeper_faults
+  pub risen : HaveRisen (count_by is_keeper_fault replies) before.keeper_faults after.keeper_faults
+  pub most : after.keeper_faults ≤ before.keeper_faults + count_by is_keeper_fault replies
+  pub sink : before.sink_faults ≤ after.sink_faults
+
+-- lines are played, and their answers are written and nothing else
+pub record Answers (before : Standing) (lines : List (List ℕ)) (after : Standing) : Type 0 where
+  pub replies : List (Option Reply)
+  pub plays : Plays before lines replies after
+  pub written : Wrote (flat_map answer_text replies) before.written after.written
+
+-- the first of the lines are played, and the sink fails at the answer of the last of them, of which a front was written
+pub record FailsToAnswer (before : Standing) (lines : List (List ℕ)) (after : Standing) : Type 0 where
+  pub first : List (List ℕ)
+  pub more : List (List ℕ)
+  pub all : lines ≡ first ++ more
+  pub answered : List (Option Reply)
+  pub reply : Option Reply
+  pub plays : Plays before first (answered ++ reply ∷ []) after
+  pub front : ℕ
+  pub within : front ≤ length (answer_text reply)
+  pub written : Wrote (flat_map answer_text answered ++ take front (answer_text reply)) before.written after.written
+  pub cause : HasRisen before.sink_faults after.sink_faults
+
+-- the lines before a bad one are answered
+pub record ComesToBadLine (number column : ℕ) (before : Standing) (lines : List (List ℕ)) (after : Standing) : Type 0 where
+  pub first : List (List ℕ)
+  pub bad : List ℕ
+  pub more : List (List ℕ)
+  pub all : lines ≡ first ++ (bad ∷ more)
+  pub unread : reading bad ≡ Err column
+  pub counted : number ≡ before.number + length first + 1
+  pub answers : Answers before first after
+
+-- one of the lines ends the play so
+abbrev pub EndsAmong : Ending → Standing → List (List ℕ) → Standing → Type 0
+EndsAmong (BadLine number column) before lines after = ComesToBadLine number column before lines after
+EndsAmong SinkFault before lines after = FailsToAnswer before lines after
+EndsAmong _ before lines after = ⊥
+
+-- the bytes and those taken before are no more than a script may have
+abbrev pub AreWithin : ℕ → List ℕ → Type 0
+AreWithin taken bytes = taken + length bytes ≤ max_script
+
+-- reading ends the play so, which had these bytes under way and had taken so many: the source gave some more
+abbrev pub EndsReading : Ending → Standing → List ℕ → ℕ → List ℕ → Option (List ℕ) → ℕ → ℕ → Standing → Type 0
+EndsReading InputEnded before under_way taken bytes input faults now_faults after =
+    AreWithin taken bytes × IsAtEnd input × Answers before (all_lines (cut_on (begun under_way) bytes)) after
+EndsReading SourceFault before under_way taken bytes input faults now_faults after =
+    AreWithin taken bytes × Answers before (cut_on (begun under_way) bytes).lines after × HasRisen faults now_faults
+EndsReading TooLong before under_way taken bytes input faults now_faults after =
+    (max_script < taken + length bytes) × Answers before (cut_on (begun under_way) (take (max_script - taken) bytes)).lines after
+EndsReading ending before under_way taken bytes input faults now_faults after =
+    EndsAmong ending before (cut_on (begun under_way) (take (max_script - taken) bytes)).lines after
+    ⊎ (AreWithin taken bytes × IsAtEnd input × EndsAmong ending before (all_lines (cut_on (begun under_way) bytes)) after)
+
+-- where an ended play stands: what is kept stands for the journal of a world
+pub record Left {K : Type 0} (kept : K → Option Kept) (ended : Ended K) : Type 0 where
+  pub world : World
+  pub number : ℕ
+  pub stands : IfSome (kept ended.keeper) (KeptStandsFor world.journal)
+  pub conserved : KeptIsConserved (kept ended.keeper)
+
+abbrev pub left_standing : {K : Type 0} → (K → Option Kept) → (K → ℕ) → Ended K → World → ℕ → Option (List ℕ) → ℕ → Standing
+left_standing kept faults ended world number written sink_faults = record {
+  world = world;
+  met = ended.met;
+  number = number;
+  kept = kept ended.keeper;
+  keeper_faults = faults ended.keeper;
+  written = written;
+  sink_faults = sink_faults;
+}
+
+-- the keeper's count and the sink's are no lower than before
+pub record HaveCounted (before after : Standing) : Type 0 where
+  pub keeper : before.keeper_faults ≤ after.keeper_faults
+  pub sink : before.sink_faults ≤ after.sink_faults
+
+-- one of the lines ended the play
+pub record EndedAmong {K : Type 0} (kept : K → Option Kept) (faults : K → ℕ) (before : Standing) (lines : List (List ℕ)) (ended : Ended K) (written : Option (List ℕ)) (sink_faults : ℕ) : Type 0 where
+  pub left : Left kept ended
+  pub counted : HaveCounted before (left_standing kept faults ended left.world left.number written sink_faults)
+  pub ends : EndsAmong ended.ending before lines (left_standing kept faults ended left.world left.number written sink_faults)
+
+-- the input ended the play: the bytes under way are its last line, where there are any
+abbrev pub EndsAtEnd : Ending → Standing → List ℕ → Standing → Type 0
+EndsAtEnd InputEnded before under_way after = Answers before (last_line under_way) after
+EndsAtEnd ending before under_way after = EndsAmong ending before (last_line under_way) after
+
+pub record EndedAtEnd {K : Type 0} (kept : K → Option Kept) (faults : K → ℕ) (before : Standing) (under_way : List ℕ) (ended : Ended K) (written : Option (List ℕ)) (sink_faults : ℕ) : Type 0 where
+  pub left : Left kept ended
+  pub counted : HaveCounted before (left_standing kept faults ended left.world left.number written sink_faults)
+  pub ends : EndsAtEnd ended.ending before under_way (left_standing kept faults ended left.world left.number written sink_faults)
+
+-- the lines are answered and the play goes on, with these bytes under way and so many taken
+pub record GoesOn {K : Type 0} (kept : K → Option Kept) (faults : K → ℕ) (before : Standing) (lines : List (List ℕ)) (under_way : List ℕ) (taken : ℕ) (play : Playing K) (written : Option (List ℕ)) (sink_faults : ℕ) : Type 0 where
+  pub answers : Answers before lines (standing kept faults play written sink_faults)
+  pub behind : play.under_way ≡ under_way
+  pub count : play.taken ≡ taken
+
+-- the play goes on behind the lines, or one of them ended it
+abbrev pub Goes : {K : Type 0} → (K → Option Kept) → (K → ℕ) → Standing → List (List ℕ) → List ℕ → ℕ → Next K → Option (List ℕ) → ℕ → Type 0
+Goes kept faults before lines under_way taken (next.On play) written sink_faults =
+    GoesOn kept faults before lines under_way taken play written sink_faults
+Goes kept faults before lines under_way taken (next.Ended ended) written sink_faults =
+    EndedAmong kept faults before lines ended written sink_faults
+
+-- what a source tells, before and after, and its count of faults
+pub record SourceSeen : Type 0 where
+  pub before : Option (List ℕ)
+  pub after : Option (List ℕ)
+  pub faults : ℕ
+  pub now_faults : ℕ
+
+abbrev pub source_seen : Option (List ℕ) → Option (List ℕ) → ℕ → ℕ → SourceSeen
+source_seen before after faults now_faults =
+    record { before = before; after = after; faults = faults; now_faults = now_faults }
+
+-- reading ended the play
+pub record EndedReading {K : Type 0} (kept : K → Option Kept) (faults : K → ℕ) (before : Standing) (under_way : List ℕ) (taken : ℕ) (source : SourceSeen) (ended : Ended K) (written : Option (List ℕ)) (sink_faults : ℕ) : Type 0 where
+  pub room : taken ≤ max_script
+  pub bytes : List ℕ
+  pub gave : Gave bytes source.before source.after
+  pub source_counted : source.faults ≤ source.now_faults
+  pub left : Left kept ended
+  pub counted : HaveCounted before (left_standing kept faults ended left.world left.number written sink_faults)
+  pub ends : EndsReading ended.ending before under_way taken bytes source.after source.faults source.now_faults (left_standing kept faults ended left.world left.number written sink_faults)
+
+-- the source gave bytes, and the play goes on behind the lines that are complete in them
+pub record ReadsOn {K : Type 0} (kept : K → Option Kept) (faults : K → ℕ) (before : Standing) (under_way : List ℕ) (taken : ℕ) (source : SourceSeen) (play : Playing K) (written : Option (List ℕ)) (sink_faults : ℕ) : Type 0 where
+  pub bytes : List ℕ
+  pub gave : Gave bytes source.before source.after
+  pub source_counted : source.faults ≤ source.now_faults
+  pub goes : GoesOn kept faults before (cut_on (begun under_way) bytes).lines (cut_on (begun under_way) bytes).rest (taken + length bytes) play written sink_faults
+
+-- a read goes on with some bytes more, or ends the play
+abbrev pub Reads : {K : Type 0} → (K → Option Kept) → (K → ℕ) → Standing → List ℕ → ℕ → SourceSeen → Next K → Option (List ℕ) → ℕ → Type 0
+Reads kept faults before under_way taken source (next.On play) written sink_faults =
+    ReadsOn kept faults before under_way taken source play written sink_faults × (taken < play.taken) × (play.taken ≤ max_script)
+Reads kept faults before under_way taken source (next.Ended ended) written sink_faults =
+    EndedReading kept faults before under_way taken source ended written sink_faults

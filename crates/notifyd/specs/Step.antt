@@ -1,0 +1,46 @@
+-- What a line does to the world and is answered, where nothing fails.
+use Rattle.std.specs.Prelude.{ℕ, ◌-◌, length, nat_le, max, Option, Some, None, if◌then◌else◌}
+use Rattle.chat_model.specs.declared.event.Event.TheVariants as event
+use Rattle.chat_model.specs.declared.request.Request.{Request}
+use Rattle.chat_model.specs.declared.request.Refusal.{Refusal}
+use Rattle.notice_ledger.specs.InOrder.{in_order}
+use Rattle.notice_ledger.specs.Refusals.{refusal}
+use Rattle.notice_ledger.specs.Due.{DueUser, first_due, batch_rows}
+use Rattle.notice_ledger.specs.Outbox.{mail_entries}
+use Rattle.notice_ledger.specs.Audit.{counts_of}
+use Rattle.office.specs.declared.answer.MailAnswer.TheVariants.{Mailed, NotDue}
+use Rattle.office.specs.Office.{answer_of}
+use Rattle.notifyd.specs.World.{World, world, stamp_now, with_event}
+use Rattle.notifyd.specs.declared.line.Line.{Line}
+use Rattle.notifyd.specs.declared.line.Line.TheVariants as line
+use Rattle.notifyd.specs.declared.reply.Reply.{Reply}
+use Rattle.notifyd.specs.declared.reply.Reply.TheVariants as reply
+
+-- the world after a line, and its reply, where it has one
+pub record Step : Type 0 where
+  pub after : World
+  pub reply : Option Reply
+
+-- a request is refused, and the world stays, or it is an event, which keeps its lists in order
+abbrev pub asked_unless : Option Refusal → World → Request → Step
+asked_unless (Some refused) w request = record { after = w; reply = Some (reply.Refused refused) }
+asked_unless None w request =
+    record { after = with_event w (event.Asked (in_order request)); reply = Some (reply.Answer (answer_of w.journal request)) }
+
+-- a mail turn takes the user of the least due moment, once it is due; else the world stays
+abbrev pub mailed_for : Option DueUser → World → Step
+mailed_for None w = record { after = w; reply = Some (reply.Mail (NotDue None)) }
+mailed_for (Some d) w =
+    let entries = length (mail_entries w.journal (stamp_now w) d.user) in
+    if nat_le d.due (stamp_now w)
+    then record { after = with_event w (event.MailTurn d.user); reply = Some (reply.Mail (Mailed d.user entries (length (batch_rows w.journal d.user) - entries))) }
+    else record { after = w; reply = Some (reply.Mail (NotDue (Some d.due))) }
+
+-- what a line does where neither memory nor the keeper fails: `at` sets the clock to the greater of itself and the
+-- moment, `audit` gives the counts of the journal, and the others are the event that the line names
+abbrev pub clean_step : World → Line → Step
+clean_step w line.Nothing = record { after = w; reply = None }
+clean_step w (line.At moment) = record { after = world w.journal (max w.clock moment); reply = None }
+clean_step w (line.Asked request) = asked_unless (refusal w.journal request) w request
+clean_step w line.Mail = mailed_for (first_due w.journal) w
+clean_step w line.Audit = record { after = w; reply = Some (reply.Audit (counts_of w.journal)) }

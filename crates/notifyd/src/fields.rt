@@ -1,0 +1,168 @@
+//! The fields of a line, which are read one after another and take no memory.
+ghost use Rattle.std.specs.Prelude.{◌≡◌, ◌≤◌, length, slice_range, IfOk, IfErr, OnOk, IsUtf8, Ok, Err};
+ghost use Rattle.chat_model.specs.Number.{number_of};
+ghost use Rattle.notifyd.specs.Field.{column_of, field_start, word_end, word_at, word_field, moment_of, switch_of, list_of, string_field, line_end};
+ghost use Rattle.notifyd.specs.Fault.{IsBadAt};
+
+use crate::field::{column_of, field_start, moment_of, string_len, switch_of, word_end};
+use crate::line::{Column, LineFault, MAX_LINE};
+use crate::listed::Listed;
+use crate::quoted::Quoted;
+use chat_model::{Moment, number_of};
+use std::marker::Model;
+
+/// A line, and the place from which on its fields are still to be read.
+#[derive(Drop)]
+pub struct Fields<'a> {
+    line: &'a [u8],
+    place: usize,
+}
+
+impl<'a> Model for Fields<'a> {
+    ghost use Rattle.std.specs.Prelude.{◌≤◌, length, IsUtf8};
+    ghost use Rattle.notifyd.specs.Unread.{Unread};
+
+    ghost Value = { Unread };
+
+    ghost view = { λ f. record { line = f.line.now; place = f.place } };
+
+    ghost invariant = { λ f. (f.place ≤ length f.line.now) × (length f.line.now ≤ 131072) × IsUtf8 f.line.now };
+}
+
+/// A field that is no string field, and the column where it begins.
+#[derive(Clone, Copy)]
+pub struct Word<'a> {
+    pub bytes: &'a [u8],
+    pub column: Column,
+}
+
+impl Word<'_> {
+    /// The fault of a line that is bad at this word.
+    pub fn is_bad(&self) -> LineFault
+        ensures { result ≡ LineFault.BadLine self.now.column }
+    {
+        LineFault::BadLine {
+            column: self.column,
+        }
+    }
+}
+
+impl<'a> Fields<'a> {
+    /// All fields of a line.
+    pub fn new(line: &'a [u8]) -> Fields<'a>
+        requires small { length line.now ≤ MAX_LINE }
+        requires utf8 { IsUtf8 line.now }
+        ensures { result ≡ record { line = line.now; place = 0 } }
+    {
+        Fields { line, place: 0 }
+    }
+
+    /// The next field, up to a space or the end of the line.
+    pub fn next_word(&mut self) -> Word<'a>
+        ensures bytes { result.bytes.now ≡ word_at self.old.line (field_start self.old.line self.old.place) }
+        ensures column { result.column ≡ column_of (field_start self.old.line self.old.place) }
+        ensures place { self.new.place ≡ word_end self.old.line (field_start self.old.line self.old.place) }
+        ensures line { self.new.line ≡ self.old.line }
+    {
+        let line = self.line;
+        let start = field_start(line, self.place);
+        let end = word_end(line, start);
+        self.place = end;
+        Word {
+            bytes: &line[start..end],
+            column: column_of(start),
+        }
+    }
+
+    /// A number.
+    #[tactic(auto, unfolding(crate::specs::Field::word_field))]
+    pub fn number(&mut self) -> Result<u64, LineFault>
+        ensures ok { IfOk result (λ number. word_field number_of self.old.line self.old.place ≡ Ok (number, self.new.place)) }
+        ensures err { IfErr result (IsBadAt (word_field number_of self.old.line self.old.place)) }
+        ensures line { self.new.line ≡ self.old.line }
+    {
+        let word = self.next_word();
+        match number_of(word.bytes) {
+            Some(number) => Ok(number),
+            None => Err(word.is_bad()),
+        }
+    }
+
+    /// A moment.
+    #[tactic(auto, unfolding(crate::specs::Field::word_field))]
+    pub fn moment(&mut self) -> Result<Moment, LineFault>
+        ensures ok { IfOk result (λ moment. word_field moment_of self.old.line self.old.place ≡ Ok (moment, self.new.place)) }
+        ensures err { IfErr result (IsBadAt (word_field moment_of self.old.line self.old.place)) }
+        ensures line { self.new.line ≡ self.old.line }
+    {
+        let word = self.next_word();
+        match moment_of(word.bytes) {
+            Some(moment) => Ok(moment),
+            None => Err(word.is_bad()),
+        }
+    }
+
+    /// `on` or `off`.
+    #[tactic(auto, unfolding(crate::specs::Field::word_field))]
+    pub fn switch(&mut self) -> Result<bool, LineFault>
+        ensures ok { IfOk result (λ on. word_field switch_of self.old.line self.old.place ≡ Ok (on, self.new.place)) }
+        ensures err { IfErr result (IsBadAt (word_field switch_of self.old.line self.old.place)) }
+        ensures line { self.new.line ≡ self.old.line }
+    {
+        let word = self.next_word();
+        match switch_of(word.bytes) {
+            Some(on) => Ok(on),
+            None => Err(word.is_bad()),
+        }
+    }
+
+    /// A list of numbers, which may be empty.
+    #[tactic(auto, unfolding(crate::specs::Field::word_field))]
+    pub fn list(&mut self) -> Result<Listed<'a>, LineFault>
+        ensures ok { IfOk result (λ numbers. word_field list_of self.old.line self.old.place ≡ Ok (numbers, self.new.place)) }
+        ensures err { IfErr result (IsBadAt (word_field list_of self.old.line self.old.place)) }
+        ensures line { self.new.line ≡ self.old.line }
+    {
+        let word = self.next_word();
+        match Listed::of(word.bytes) {
+            Some(listed) => Ok(listed),
+            None => Err(word.is_bad()),
+        }
+    }
+
+    /// A string field.
+    #[tactic(auto, unfolding(crate::specs::Field::string_field))]
+    pub fn string(&mut self) -> Result<Quoted<'a>, LineFault>
+        ensures ok { IfOk result (λ text. string_field self.old.line self.old.place ≡ Ok (text, self.new.place)) }
+        ensures err { IfErr result (IsBadAt (string_field self.old.line self.old.place)) }
+        ensures line { self.new.line ≡ self.old.line }
+    {
+        let line = self.line;
+        let start = field_start(line, self.place);
+        match string_len(line, start) {
+            Some(len) => {
+                self.place = start + len + 2;
+                Ok(Quoted::of(&line[start + 1..start + 1 + len]))
+            }
+            None => Err(LineFault::BadLine {
+                column: column_of(start),
+            }),
+        }
+    }
+
+    /// Whether no field is left.
+    #[tactic(auto, unfolding(crate::specs::Field::line_end))]
+    pub fn end(&self) -> Result<(), LineFault>
+        ensures ok { OnOk result (line_end self.now.line self.now.place ≡ Ok tt) }
+        ensures err { IfErr result (IsBadAt (line_end self.now.line self.now.place)) }
+    {
+        let start = field_start(self.line, self.place);
+        if start == self.line.len() {
+            Ok(())
+        } else {
+            Err(LineFault::BadLine {
+                column: column_of(start),
+            })
+        }
+    }
+}

@@ -1,0 +1,12 @@
+pub mod Searches
+pub mod Settling
+pub mod Registering
+pub mod Dealing
+pub mod Acking
+pub mod Ends
+pub mod InPlace
+pub mod Entries
+pub mod Sending
+pub mod Hubs
+pub mod Found
+pub mod Changes

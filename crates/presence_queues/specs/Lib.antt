@@ -1,0 +1,4 @@
+pub mod Fields
+pub mod Hub
+pub mod Law
+pub mod Steps
