@@ -20,7 +20,7 @@ abbrev pub has_number : {A : Type 0} → (A → ℕ) → List A → ℕ → Bool
 has_number number xs n = list_any (λ x. number x == n) xs
 
 -- the number is below those of these items
-abbrev IsBelow : {A : Type 0} → (A → ℕ) → ℕ → List A → Type 0
+abbrev pub IsBelow : {A : Type 0} → (A → ℕ) → ℕ → List A → Type 0
 IsBelow number n xs = AllByRecursion (λ x. n < number x) xs
 
 IsBelow-weaker : {A : Type 0} (number : A → ℕ) (m n : ℕ) → m ≤ n → (xs : List A) → IsBelow number n xs → IsBelow number m xs
@@ -31,14 +31,14 @@ pub ascending-rest : {A : Type 0} (number : A → ℕ) (x : A) (xs : List A) →
 ascending-rest number x [] h = refl
 ascending-rest number x (y ∷ ys) h = (and_parts (nat_lt (number x) (number y)) (is_ascending_by number (y ∷ ys)) h).1
 
-ascending-below : {A : Type 0} (number : A → ℕ) (x : A) (xs : List A) → is_ascending_by number (x ∷ xs) ≡ true → IsBelow number (number x) xs
+pub ascending-below : {A : Type 0} (number : A → ℕ) (x : A) (xs : List A) → is_ascending_by number (x ∷ xs) ≡ true → IsBelow number (number x) xs
 ascending-below number x [] h = tt
 ascending-below number x (y ∷ ys) h =
     let parts = and_parts (nat_lt (number x) (number y)) (is_ascending_by number (y ∷ ys)) h in
     let lt : number x < number y = ltb-true (number x) (number y) parts.0 in
     (lt, IsBelow-weaker number (number x) (number y) (omega arith) ys (ascending-below number y ys parts.1))
 
-ascending-cons : {A : Type 0} (number : A → ℕ) (x : A) (xs : List A) → IsBelow number (number x) xs → is_ascending_by number xs ≡ true → is_ascending_by number (x ∷ xs) ≡ true
+pub ascending-cons : {A : Type 0} (number : A → ℕ) (x : A) (xs : List A) → IsBelow number (number x) xs → is_ascending_by number xs ≡ true → is_ascending_by number (x ∷ xs) ≡ true
 ascending-cons number x [] below h = refl
 ascending-cons number x (y ∷ ys) below h = and_from (nat_lt (number x) (number y)) (is_ascending_by number (y ∷ ys)) (lt-ltb (number x) (number y) below.0) h
 
@@ -53,7 +53,7 @@ ascending-distinct number x xs h = not_theirs number (number x) xs (ascending-be
 
 -- ---- items ascending, once each
 
-put_once-cases : {A : Type 0} (number : A → ℕ) (P : List A → Type 0) (x y : A) (ys : List A) → (number x < number y → P (x ∷ y ∷ ys)) → (number x ≡ number y → P (y ∷ ys)) → (number y < number x → P (y ∷ put_once_by number x ys)) → P (put_once_by number x (y ∷ ys))
+pub put_once-cases : {A : Type 0} (number : A → ℕ) (P : List A → Type 0) (x y : A) (ys : List A) → (number x < number y → P (x ∷ y ∷ ys)) → (number x ≡ number y → P (y ∷ ys)) → (number y < number x → P (y ∷ put_once_by number x ys)) → P (put_once_by number x (y ∷ ys))
 put_once-cases number P x y ys before same behind =
     cond_both (nat_lt (number x) (number y)) (x ∷ y ∷ ys) (cond (number x == number y) (y ∷ ys) (y ∷ put_once_by number x ys)) P
     (λ e. before (ltb-true (number x) (number y) e))
@@ -63,7 +63,7 @@ put_once-below : {A : Type 0} (number : A → ℕ) (n : ℕ) (x : A) (xs : List 
 put_once-below number n x [] lt h = (lt, tt)
 put_once-below number n x (y ∷ ys) lt h = put_once-cases number (IsBelow number n) x y ys (λ _. (lt, h)) (λ _. h) (λ _. (h.0, put_once-below number n x ys lt h.1))
 
-put_once-ascending : {A : Type 0} (number : A → ℕ) (x : A) (xs : List A) → is_ascending_by number xs ≡ true → is_ascending_by number (put_once_by number x xs) ≡ true
+pub put_once-ascending : {A : Type 0} (number : A → ℕ) (x : A) (xs : List A) → is_ascending_by number xs ≡ true → is_ascending_by number (put_once_by number x xs) ≡ true
 put_once-ascending number x [] h = refl
 put_once-ascending number x (y ∷ ys) h =
     let below = ascending-below number y ys h in
@@ -86,7 +86,7 @@ or_twice : (a c : Bool) → (a || c) ≡ (a || (a || c))
 or_twice true c = refl
 or_twice false c = refl
 
-put_once-has : {A : Type 0} (number : A → ℕ) (n : ℕ) (x : A) (xs : List A) → has_number number (put_once_by number x xs) n ≡ (number x == n || has_number number xs n)
+pub put_once-has : {A : Type 0} (number : A → ℕ) (n : ℕ) (x : A) (xs : List A) → has_number number (put_once_by number x xs) n ≡ (number x == n || has_number number xs n)
 put_once-has number n x [] = refl
 put_once-has number n x (y ∷ ys) =
     put_once-cases number (λ zs. has_number number zs n ≡ (number x == n || (number y == n || has_number number ys n))) x y ys

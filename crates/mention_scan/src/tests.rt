@@ -294,6 +294,20 @@ const LONG_TEXT: usize = 10_000;
 
 const LONGEST_RUN: usize = 139;
 
+/// The name of user 7, a text that is one span, and whether it mentions the user and the channel.
+const NAMED: [(&'static str, &'static str, bool, bool); 7] = [
+    // a user may be named like a wildcard in other letters
+    ("All", "@**All**", true, false),
+    ("All", "@**all**", false, true),
+    // names are compared without case in ASCII alone
+    ("é", "@**é**", true, false),
+    ("é", "@**É**", false, false),
+    // the last `|` ends the name, which may have one itself
+    ("A|da", "@**a|DA|7**", true, false),
+    ("A|da", "@**A|7**", false, false),
+    ("A|da", "@**A|da**", false, false),
+];
+
 #[test]
 fn worked_texts(rt: HostRuntime) -> Result<(), Fail> {
     rows_hold(&rt, rt.alloc(), &ROWS)
@@ -319,81 +333,33 @@ fn wildcards_by_each_word_and_silent_ones(rt: HostRuntime) -> Result<(), Fail> {
     rows_hold(&rt, rt.alloc(), &WILDCARDS)
 }
 
-/// A user may be named like a wildcard in other letters.
 #[test]
-fn a_user_named_like_a_wildcard(rt: HostRuntime) -> Result<(), Fail> {
+fn names_of_one_user(rt: HostRuntime) -> Result<(), Fail> {
     let alloc = rt.alloc();
-    let users = [UserName {
-        id: UserId(7),
-        name: Text::from_str(alloc, "All")?,
-    }];
-    for (text, named) in [("@**All**", true), ("@**all**", false)] {
+    for (name, text, named, channel) in &NAMED {
+        let users = [user(alloc, 7, name)?];
         let spans = scan(alloc, text)?;
-        let mentions = resolve(alloc, text, spans.as_slice(), &users, &[])?;
-        assert_eq!(rt;
-            mentions.users.as_slice().len(),
-            usize::from(named),
-            "the users in {text:?}"
-        );
-        assert_eq!(rt;
-            mentions.channel_wildcard,
-            !named,
-            "the channel in {text:?}"
-        );
-    }
-    Ok(())
-}
-
-/// Names are compared without case in ASCII alone.
-#[test]
-fn a_user_with_a_letter_beyond_ascii(rt: HostRuntime) -> Result<(), Fail> {
-    let alloc = rt.alloc();
-    let users = [UserName {
-        id: UserId(7),
-        name: Text::from_str(alloc, "é")?,
-    }];
-    for (text, named) in [("@**é**", true), ("@**É**", false)] {
-        let spans = scan(alloc, text)?;
+        assert_eq!(rt; spans.as_slice().len(), 1, "the spans of {text:?}");
         assert_eq!(rt;
             spans.as_slice().first().copied(),
             Some(Span {
                 start: 0,
-                end: 7,
+                end: text.len(),
                 silent: false,
                 group: false,
             }),
             "the span of {text:?}"
         );
-        assert_eq!(rt; spans.as_slice().len(), 1, "the spans of {text:?}");
         let mentions = resolve(alloc, text, spans.as_slice(), &users, &[])?;
         assert_eq!(rt;
             mentions.users.as_slice().len(),
-            usize::from(named),
+            usize::from(*named),
             "the users in {text:?}"
         );
-    }
-    Ok(())
-}
-
-/// The last `|` ends the name, which may have one itself.
-#[test]
-fn a_user_with_a_bar_in_the_name(rt: HostRuntime) -> Result<(), Fail> {
-    let alloc = rt.alloc();
-    let users = [UserName {
-        id: UserId(7),
-        name: Text::from_str(alloc, "A|da")?,
-    }];
-    for (text, named) in [
-        ("@**a|DA|7**", true),
-        ("@**A|7**", false),
-        ("@**A|da**", false),
-    ] {
-        let spans = scan(alloc, text)?;
-        let mentions = resolve(alloc, text, spans.as_slice(), &users, &[])?;
         assert_eq!(rt;
-            mentions.users.as_slice().len(),
-            usize::from(named),
-            "the users in {text:?}"
+            mentions.channel_wildcard,
+            *channel,
+            "the channel in {text:?}"
         );
     }
     Ok(())

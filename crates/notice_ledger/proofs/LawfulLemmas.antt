@@ -1,5 +1,5 @@
 -- The lawful events of a list, event by event, and what a list of lawful events alone means.
-use Rattle.std.proofs.Common.{◌≡◌, Bool, true, false, List, [], ◌∷◌, ◌++◌, refl, ap, ◌∙◌, subst}
+use Rattle.std.proofs.Common.{◌≡◌, Bool, true, false, List, [], ◌∷◌, ◌++◌, refl, sym, ap, ◌∙◌, subst}
 use Rattle.std.specs.Prelude.{if◌then◌else◌}
 use Rattle.chat_model.specs.declared.event.Stamped.{Stamped}
 use Rattle.notice_ledger.specs.Past.Lawful as past
@@ -45,3 +45,13 @@ as_kept j = refl
 -- the lawful events of a list are a lawful list
 pub lawful-lawful : (j : List Stamped) → IsLawful (lawful j)
 lawful-lawful j = subst (λ k. lawful k ≡ k) (as_kept j) (kept_from-lawful [] j IsLawful-nil)
+
+-- an event that is lawful behind the lawful events is kept, and another isn't
+pub kept-lawful : (j : List Stamped) (s : Stamped) (kept : List Stamped) → kept ≡ lawful j → past.is_lawful_after kept s ≡ true → kept ++ s ∷ [] ≡ lawful (j ++ s ∷ [])
+kept-lawful j s kept so_far next =
+    ap (λ k. k ++ s ∷ []) so_far ∙ sym (lawful-next j s (ap (λ k. past.is_lawful_after k s) (sym so_far) ∙ next))
+
+pub kept-unlawful : (j : List Stamped) (s : Stamped) (kept : List Stamped) → kept ≡ lawful j → past.is_lawful_after kept s ≡ false → kept ≡ lawful (j ++ s ∷ [])
+kept-unlawful j s kept so_far next =
+    so_far
+    ∙ sym (lawful-append j s ∙ ap (λ b. if b then lawful j ++ s ∷ [] else lawful j) (ap (λ k. past.is_lawful_after k s) (sym so_far) ∙ next))

@@ -12,4 +12,10 @@ pub mod Places
 pub mod InOrder
 pub mod RowKeys
 pub mod RowOrder
-pub mod Refused
+pub mod RuleOrder
+pub mod There
+pub mod OwedLemmas
+pub mod TurnLemmas
+pub mod AscendingSteps
+pub mod SlowLemmas
+pub mod OneMore

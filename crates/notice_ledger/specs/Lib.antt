@@ -11,3 +11,4 @@ pub mod Audit
 pub mod Rows
 pub mod Refusals
 pub mod Conserved
+pub mod Plain

@@ -6,13 +6,22 @@
 #![tactic(auto)]
 
 mod accounts;
+mod due;
+mod kept;
 mod laws;
 mod order;
+mod owed;
+mod refused;
 mod rules;
+mod slow;
+#[cfg(test)]
+mod slow_tests;
 #[cfg(test)]
 mod tests;
+mod values;
 
 pub use accounts::Account;
 pub use laws::{refusal_is_least, rows_are_listed, rows_ascend, rules_ascend};
 pub use order::in_order;
 pub use rules::{is_bad_name, is_blank, is_longer_than};
+pub use slow::{account, audit};

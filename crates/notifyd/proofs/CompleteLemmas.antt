@@ -1,6 +1,6 @@
 -- A run over a script that can be read, at which nothing fails.
-use Rattle.std.proofs.Common.{◌≡◌, ℕ, ◌+◌, ◌-◌, ◌<◌, ◌≤◌, Bool, true, false, cond, List, [], ◌∷◌, ◌++◌, length, take, drop, zero, suc, Option, Some, None, Result, refl, sym, ap, ◌∙◌, subst, append_assoc, length-append, take-append-drop, arith, inl, inr, ◌⊎◌, ◌||◌}
-use Rattle.std.specs.Prelude.{slice_get, IfSome, IsSome, IsOk, count_by, option_map}
+use Rattle.std.proofs.Common.{◌≡◌, ℕ, ◌+◌, ◌-◌, ◌<◌, ◌≤◌, Bool, true, false, cond, List, [], ◌∷◌, ◌++◌, length, drop, zero, suc, Option, Some, None, Result, refl, sym, ap, ◌∙◌, subst, append_assoc, length-append, take-append-drop, arith, inl, inr, ◌⊎◌, ◌||◌}
+use Rattle.std.specs.Prelude.{slice_get, IfSome, IsSome, IsOk, count_by}
 use Rattle.std.specs.List.{AllByRecursion, list_any}
 use Rattle.std.proofs.lemmas.List.{append-nil}
 use Rattle.std.proofs.lemmas.List.Sums.{sum_by-append}
@@ -17,7 +17,7 @@ use Rattle.notifyd.specs.Cut.{IsBadLine, cut_of, all_lines, last_line, allowed, 
 use Rattle.notifyd.specs.Play.{HaveRisen, is_keeper_fault}
 use Rattle.notifyd.specs.Ending.{last_text, status_met, status_of}
 use Rattle.notifyd.specs.Status.{status_number, KeptIsEmpty}
-use Rattle.notifyd.specs.Run.{Devices, Gave, IsAtEnd, IsWithin, IsCourse, PlayedAs, WentAs, RanAs, GoesWell}
+use Rattle.notifyd.specs.Run.{Devices, Gave, IsAtEnd, IsWithin, WentAs, RanAs, GoesWell}
 use Rattle.notifyd.proofs.CutLemmas.{allowed-within, IsBadLine-of_front, IsBadLine-complete}
 
 -- one of the lines, each of which can be read
@@ -74,7 +74,7 @@ bad_of_script script taken now number column p bad whole =
     ]
 
 -- a keeper's fault among the replies is counted
-some_fault : (replies : List (Option Reply)) → list_any is_keeper_fault replies ≡ true → 1 ≤ count_by is_keeper_fault replies
+pub some_fault : (replies : List (Option Reply)) → list_any is_keeper_fault replies ≡ true → 1 ≤ count_by is_keeper_fault replies
 some_fault [] h = absurd (cc)
 some_fault (reply ∷ replies) h =
     let P : ℕ → Type 0 = λ n. 1 ≤ n in

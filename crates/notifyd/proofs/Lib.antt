@@ -14,3 +14,4 @@ pub mod KeptLemmas
 pub mod ShownLemmas
 pub mod RunLemmas
 pub mod CompleteLemmas
+pub mod CauseLemmas

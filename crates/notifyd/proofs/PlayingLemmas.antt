@@ -1,5 +1,5 @@
 -- What the steps of a play say of where it stands.
-use Rattle.std.proofs.Common.{◌≡◌, ℕ, ◌+◌, ◌≤◌, Bool, true, cond, List, [], ◌∷◌, ◌++◌, length, take, drop, get_or, ◌-◌, ◌<◌, take-append-drop, length-append, false, Option, Some, None, Ok, Result, refl, sym, ap, ◌∙◌, subst, arith, ◌||◌, is_some}
+use Rattle.std.proofs.Common.{◌≡◌, ℕ, ◌+◌, ◌≤◌, true, cond, List, [], ◌∷◌, ◌++◌, length, take, drop, get_or, ◌<◌, take-append-drop, length-append, false, Option, Some, Ok, Result, refl, sym, ap, ◌∙◌, subst, arith, ◌||◌, is_some}
 use Rattle.std.specs.Prelude.{IfSome}
 use Rattle.chat_model.specs.Counts.{HasRisen}
 use Rattle.keeper.specs.declared.keeper.Kept.{Kept}
@@ -8,14 +8,13 @@ use Rattle.notifyd.specs.declared.reply.Reply.{Reply}
 use Rattle.notifyd.specs.declared.reply.Reply.TheVariants as reply
 use Rattle.notifyd.specs.declared.ending.Ending.{Ending}
 use Rattle.notifyd.specs.declared.ending.Ended.{Ended}
-use Rattle.notifyd.specs.declared.ending.Met.{Met}
 use Rattle.notifyd.specs.World.{World}
 use Rattle.notifyd.specs.Play.{PlaysLine, is_keeper_fault, is_out_of_memory}
 use Rattle.notifyd.specs.Status.{KeptIsConserved}
 use Rattle.notifyd.specs.Playing.{Playing}
-use Rattle.notifyd.specs.Cut.{Cut, begun, cut_more, cut_on, completes, max_script}
+use Rattle.notifyd.specs.Cut.{Cut, begun, cut_on, completes, max_script}
 use Rattle.notifyd.specs.Run.{Gave}
-use Rattle.notifyd.specs.Going.{Standing, standing, left_standing, Left, Answers, EndsAmong, EndedAmong, EndsAtEnd, EndedAtEnd, EndsReading, EndedReading, HaveCounted, GoesOn, ReadsOn, SourceSeen, source_seen}
+use Rattle.notifyd.specs.Going.{Standing, standing, left_standing, Answers, EndsAmong, EndedAmong, EndsAtEnd, EndedAtEnd, EndsReading, EndedReading, HaveCounted, GoesOn, ReadsOn, SourceSeen, source_seen}
 use Rattle.notifyd.proofs.CutLemmas.{cut_on-take, cut_more-complete, cut_more-open, lines-then, rest-then}
 use Rattle.notifyd.proofs.ReadingLemmas.{Gave-none, Gave-then, EndsReading-then, lines_of_none, rest_of_none}
 use Rattle.notifyd.proofs.GoingLemmas.{PlaysOne, Answers-none, Answers-then, EndsAmong-then, EndsAmong-more, HaveCounted-then}

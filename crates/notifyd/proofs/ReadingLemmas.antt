@@ -1,16 +1,15 @@
 -- What a source gave at one read after another, and the lines of it.
-use Rattle.std.proofs.Common.{◌≡◌, ℕ, ◌+◌, ◌-◌, ◌<◌, ◌≤◌, min, Bool, true, false, ltb, List, [], ◌∷◌, ◌++◌, length, take, drop, get_or, Option, Some, None, refl, sym, ap, ◌∙◌, subst, append_assoc, length-append, take-append-drop, arith, inl, inr}
+use Rattle.std.proofs.Common.{◌≡◌, ℕ, ◌+◌, ◌-◌, ◌<◌, ◌≤◌, min, Bool, true, false, ltb, List, [], ◌∷◌, ◌++◌, length, take, drop, Option, Some, None, refl, sym, ap, ◌∙◌, subst, append_assoc, length-append, take-append-drop, arith, inl, inr}
 use Rattle.std.specs.Prelude.{◌==◌, IfSome, option_map}
 use Rattle.std.proofs.lemmas.List.{take_all, take-take, length-take-le}
 use Rattle.std.proofs.lemmas.Bool.{ne_eqb, ltb-true, ltb-false}
 use Rattle.std.proofs.Math.Seq.{take-append-add}
-use Rattle.chat_model.specs.Counts.{HasRisen}
 use Rattle.notifyd.specs.Device.{GivesNext}
 use Rattle.notifyd.specs.declared.ending.Ending.{Ending}
 use Rattle.notifyd.specs.declared.ending.Ending.TheVariants.{InputEnded, SourceFault, TooLong}
 use Rattle.notifyd.specs.Cut.{Cut, begun, cut_on, all_lines, last_line, max_script}
 use Rattle.notifyd.specs.Run.{Gave, IsAtEnd}
-use Rattle.notifyd.specs.Going.{Standing, Answers, EndsAmong, EndsAtEnd, EndsReading, AreWithin}
+use Rattle.notifyd.specs.Going.{Standing, Answers, EndsAmong, EndsAtEnd, EndsReading}
 use Rattle.notifyd.proofs.CutLemmas.{cut_on-none, lines-then, all_lines-then}
 use Rattle.notifyd.proofs.GoingLemmas.{Answers-none, Answers-then, EndsAmong-then}
 

@@ -1,5 +1,5 @@
 -- A run, from how its play ended.
-use Rattle.std.proofs.Common.{◌≡◌, ℕ, ◌+◌, ◌-◌, ◌<◌, ◌≤◌, Bool, true, false, List, [], ◌∷◌, ◌++◌, length, take, Option, Some, None, Err, refl, sym, ap, ◌∙◌, subst, append_assoc, length-append, arith, ◌||◌, inl, inr, ◌⊎◌, is_some, zero, suc}
+use Rattle.std.proofs.Common.{◌≡◌, ℕ, ◌+◌, ◌-◌, ◌<◌, ◌≤◌, false, List, [], ◌∷◌, ◌++◌, length, take, Option, Some, None, refl, sym, ap, ◌∙◌, subst, length-append, arith, ◌||◌, inl, inr, ◌⊎◌, is_some, zero, suc}
 use Rattle.std.specs.Prelude.{IfSome, option_map, slice_get}
 use Rattle.std.specs.List.{list_any, flat_map}
 use Rattle.std.proofs.Math.Seq.{take-append_seam}
@@ -14,14 +14,14 @@ use Rattle.notifyd.specs.declared.ending.Ending.{Ending}
 use Rattle.notifyd.specs.declared.ending.Ending.TheVariants.{InputEnded, BadLine, SourceFault, TooLong, SinkFault, NotStarted}
 use Rattle.notifyd.specs.declared.ending.Ended.{Ended}
 use Rattle.notifyd.specs.declared.ending.Met.{Met}
-use Rattle.notifyd.specs.Cut.{IsBadLine, begun, cut_on, cut_of, all_lines, last_line, allowed, max_script}
+use Rattle.notifyd.specs.Cut.{IsBadLine, cut_of, all_lines, last_line, allowed, max_script}
 use Rattle.notifyd.specs.World.{World, started}
-use Rattle.notifyd.specs.Play.{PlaysLines, HaveRisen, answer_text, is_keeper_fault, is_out_of_memory}
+use Rattle.notifyd.specs.Play.{PlaysLines, answer_text, is_keeper_fault, is_out_of_memory}
 use Rattle.notifyd.specs.Ending.{last_text}
 use Rattle.notifyd.specs.Status.{KeptIsEmpty, KeptIsConsistent, KeptIsConserved}
-use Rattle.notifyd.specs.Run.{Devices, devices, Gave, IsAtEnd, Wrote, AreFirst, IsCourse, IsWithin, EndsAs, PlayedAs, IsUnstarted, EndedUnstarted, PlayedUnwritten, UnstartedUnwritten, SinkFailed, WentAs}
+use Rattle.notifyd.specs.Run.{Devices, devices, Gave, IsAtEnd, Wrote, AreFirst, IsCourse, IsWithin, EndsAs, PlayedAs, IsUnstarted, PlayedUnwritten, SinkFailed, WentAs}
 use Rattle.notifyd.specs.Playing.{Playing}
-use Rattle.notifyd.specs.Going.{Standing, standing, left_standing, Plays, Answers, FailsToAnswer, ComesToBadLine, EndsAmong, EndsReading, EndedReading, source_seen}
+use Rattle.notifyd.specs.Going.{Standing, standing, left_standing, Plays, Answers, FailsToAnswer, ComesToBadLine, EndsReading, EndedReading, source_seen}
 use Rattle.notifyd.proofs.CutLemmas.{allowed-within, AreFirst-complete, AreFirst-all}
 use Rattle.notifyd.proofs.GoingLemmas.{Wrote-none, Wrote-then, EndsAmong-more}
 use Rattle.notifyd.proofs.ShownLemmas.{plays-shown, marks-read}
@@ -276,7 +276,7 @@ played_unwritten ending met before mid front written sink within wrote p = recor
   course = course_still p.taken p.lines p.replies met before mid written sink p.course;
   answered = p.replies;
   text = last_text ending;
-  given = inr (ending, refl, refl);
+  given = inr (ending, refl, refl, p.ends);
   front = front;
   within = within;
   written = text_then (flat_map answer_text p.replies) (take front (last_text ending)) _ _ _ p.written wrote;

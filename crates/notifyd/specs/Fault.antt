@@ -1,5 +1,5 @@
 -- Why a line is not read.
-use Rattle.std.specs.Prelude.{◌≡◌, ℕ, Bool, true, false, Result, Ok, Err}
+use Rattle.std.specs.Prelude.{◌≡◌, ℕ, Bool, true, false, Result, Ok, Err, MatchResult}
 use Rattle.notifyd.specs.declared.line.Line.{Line}
 use Rattle.notifyd.specs.declared.line.LineFault.{LineFault}
 use Rattle.notifyd.specs.declared.line.LineFault.TheVariants.{BadLine, OutOfMemory}
@@ -15,6 +15,10 @@ abbrev pub IsBadAt : {A : Type 0} → Result A ℕ → LineFault → Type 0
 IsBadAt reading (BadLine column) = reading ≡ Err column
 IsBadAt reading OutOfMemory = ⊥
 
+-- a field is read as the grammar reads it, up to this place, or is bad at the grammar's column
+abbrev pub IsFieldRead : {A : Type 0} → Result (A × ℕ) ℕ → Result A LineFault → ℕ → Type 0
+IsFieldRead reading result place = MatchResult result (λ value. reading ≡ Ok (value, place)) (IsBadAt reading)
+
 -- what is read is a request
 abbrev pub reads_request : Result Line ℕ → Bool
 reads_request (Ok line) = is_request line
@@ -24,3 +28,7 @@ reads_request _ = false
 abbrev pub IsFaultOf : Result Line ℕ → LineFault → Type 0
 IsFaultOf reading (BadLine column) = reading ≡ Err column
 IsFaultOf reading OutOfMemory = reads_request reading ≡ true
+
+-- a line is read as the grammar reads it, or has the grammar's fault
+abbrev pub IsRead : Result Line ℕ → Result Line LineFault → Type 0
+IsRead reading result = MatchResult result (λ line. reading ≡ Ok line) (IsFaultOf reading)

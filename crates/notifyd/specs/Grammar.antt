@@ -85,22 +85,30 @@ audit_line line place = do
   end ← line_end line place
   Ok Audit
 
--- a line of fields: its first word says which fields follow, and another first word is a bad field
+-- a line that is no request: its first word says which fields follow, and another first word is a bad field
+unfoldable pub step_reading : List ℕ → Result Line ℕ
+step_reading line =
+    let start = field_start line 0 in
+    let word = word_at line start in
+    let place = word_end line start in
+    if bytes_eq word (codes "at") then at_line line place
+    else (if bytes_eq word (codes "mail") then mail_line line place
+    else (if bytes_eq word (codes "audit") then audit_line line place
+    else Err (column_of start)))
+
+-- a line of fields: a request by its first word, which says which fields follow, or else another step
 unfoldable pub fields_reading : List ℕ → Result Line ℕ
 fields_reading line =
     let start = field_start line 0 in
     let word = word_at line start in
     let place = word_end line start in
-    if bytes_eq word (codes "at") then at_line line place
-    else (if bytes_eq word (codes "user") then user_line line place
+    if bytes_eq word (codes "user") then user_line line place
     else (if bytes_eq word (codes "group") then group_line line place
     else (if bytes_eq word (codes "member") then member_line line place
     else (if bytes_eq word (codes "channel") then channel_line line place
     else (if bytes_eq word (codes "sub") then subscribe_line line place
     else (if bytes_eq word (codes "send") then send_line line place
-    else (if bytes_eq word (codes "mail") then mail_line line place
-    else (if bytes_eq word (codes "audit") then audit_line line place
-    else Err (column_of start)))))))))
+    else step_reading line)))))
 
 -- a line that is empty, has only spaces, or whose first byte is `#`
 unfoldable pub is_nothing : List ℕ → Bool

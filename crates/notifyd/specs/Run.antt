@@ -1,5 +1,5 @@
 -- How a run of `play` went, by its ending: what was read, played, written and kept.
-use Rattle.std.specs.Prelude.{◌≡◌, ℕ, ◌+◌, ◌-◌, ◌<◌, ◌≤◌, List, [], ◌∷◌, ◌++◌, length, take, count_by, Option, Some, IfSome, IsSome, IsOk, is_some, option_map, ◌⊎◌, ⊤}
+use Rattle.std.specs.Prelude.{◌≡◌, ℕ, ◌+◌, ◌-◌, ◌<◌, ◌≤◌, List, [], ◌∷◌, ◌++◌, length, take, count_by, Option, Some, IfSome, IsSome, IsOk, is_some, option_map, ◌⊎◌}
 use Rattle.std.specs.List.{list_any, flat_map, AllByRecursion}
 use Rattle.chat_model.specs.Counts.{HasRisen}
 use Rattle.keeper.specs.declared.keeper.Kept.{Kept}
@@ -121,10 +121,11 @@ pub record EndedUnstarted (why : StartFault) (last : List ℕ) (before now : Dev
   pub written : Wrote last before.written now.written
 
 -- the text that a failed sink was given last: the answer of the last line that was played, or the last line of a run
-abbrev pub IsGivenLast : List (Option Reply) → List (Option Reply) → List ℕ → Type 0
-IsGivenLast replies answered text =
+-- whose play ended so
+abbrev pub IsGivenLast : List (Option Reply) → List (Option Reply) → List ℕ → (Ending → Type 0) → Type 0
+IsGivenLast replies answered text ends =
     ((reply : Option Reply) × (replies ≡ answered ++ reply ∷ []) × (text ≡ answer_text reply))
-    ⊎ ((ending : Ending) × (replies ≡ answered) × (text ≡ last_text ending))
+    ⊎ ((ending : Ending) × (replies ≡ answered) × (text ≡ last_text ending) × ends ending)
 
 -- the sink failed at a play that was begun: the answers were written, but of the text that it was given last only a front
 pub record PlayedUnwritten (met : Met) (before now : Devices) : Type 0 where
@@ -134,7 +135,7 @@ pub record PlayedUnwritten (met : Met) (before now : Devices) : Type 0 where
   pub course : IsCourse taken lines replies met before now
   pub answered : List (Option Reply)
   pub text : List ℕ
-  pub given : IsGivenLast replies answered text
+  pub given : IsGivenLast replies answered text (λ ending. EndsAs ending taken lines now.input before.source_faults now.source_faults)
   pub front : ℕ
   pub within : front ≤ length text
   pub written : Wrote (flat_map answer_text answered ++ take front text) before.written now.written
@@ -162,6 +163,14 @@ pub record RanAs (before : Devices) (status : ℕ) (now : Devices) : Type 0 wher
   pub met : Met
   pub went : WentAs ending (last_text ending) met before now
   pub exit : status ≡ status_number (status_of ending met)
+
+-- a status that is a fault's comes only where that count rose, and the one of a start over something only where
+-- something was kept
+pub record HasCause (status : ℕ) (before now : Devices) : Type 0 where
+  pub source : status ≡ 3 → HasRisen before.source_faults now.source_faults
+  pub sink : status ≡ 4 → HasRisen before.sink_faults now.sink_faults
+  pub keeper : status ≡ 5 → HasRisen before.keeper_faults now.keeper_faults
+  pub kept : status ≡ 8 → IfSome before.kept (λ kept. 0 < length kept.journal + length kept.rows)
 
 -- no count of faults fell since
 pub record HaveNotFallen (before now : Devices) : Type 0 where

@@ -1,5 +1,5 @@
 -- What a line does to the world and is answered, where nothing fails.
-use Rattle.std.specs.Prelude.{ℕ, ◌-◌, length, nat_le, max, Option, Some, None, if◌then◌else◌}
+use Rattle.std.specs.Prelude.{◌-◌, length, nat_le, max, Option, Some, None, if◌then◌else◌}
 use Rattle.chat_model.specs.declared.event.Event.TheVariants as event
 use Rattle.chat_model.specs.declared.request.Request.{Request}
 use Rattle.chat_model.specs.declared.request.Refusal.{Refusal}

@@ -5,7 +5,7 @@ ghost use Rattle.std.specs.Option.{option_map};
 ghost use Rattle.notifyd.specs.Sink.{WritesFront};
 ghost use Rattle.notifyd.specs.LastLine.{last_line_text};
 ghost use Rattle.notifyd.specs.Ending.{last_text, status_met, status_of};
-ghost use Rattle.notifyd.specs.Run.{devices, WentAs, RanAs, HaveNotFallen, GoesWell};
+ghost use Rattle.notifyd.specs.Run.{devices, WentAs, RanAs, HasCause, HaveNotFallen, GoesWell};
 ghost use Rattle.notifyd.specs.Status.{is_play, status_number, KeptIsEmpty, KeptIsConsistent, KeptIsConserved};
 
 use crate::ending::{Ended, Ending, Met};
@@ -158,6 +158,9 @@ pub fn run<S: Source, O: Sink, K: Keeper, P: Spool>(
         result.status
         (devices (S.remaining source.new) (O.written out.new) (K.kept result.keeper) (S.faults source.new) (O.faults out.new) (K.faults result.keeper)) }
     ensures counted { HaveNotFallen
+        (devices (S.remaining source.old) (O.written out.old) (K.kept keeper) (S.faults source.old) (O.faults out.old) (K.faults keeper))
+        (devices (S.remaining source.new) (O.written out.new) (K.kept result.keeper) (S.faults source.new) (O.faults out.new) (K.faults result.keeper)) }
+    ensures causes { is_play words.now ≡ true → HasCause result.status
         (devices (S.remaining source.old) (O.written out.old) (K.kept keeper) (S.faults source.old) (O.faults out.old) (K.faults keeper))
         (devices (S.remaining source.new) (O.written out.new) (K.kept result.keeper) (S.faults source.new) (O.faults out.new) (K.faults result.keeper)) }
     ensures complete { is_play words.now ≡ true → GoesWell

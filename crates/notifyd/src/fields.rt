@@ -2,7 +2,7 @@
 ghost use Rattle.std.specs.Prelude.{◌≡◌, ◌≤◌, length, slice_range, IfOk, IfErr, OnOk, IsUtf8, Ok, Err};
 ghost use Rattle.chat_model.specs.Number.{number_of};
 ghost use Rattle.notifyd.specs.Field.{column_of, field_start, word_end, word_at, word_field, moment_of, switch_of, list_of, string_field, line_end};
-ghost use Rattle.notifyd.specs.Fault.{IsBadAt};
+ghost use Rattle.notifyd.specs.Fault.{IsBadAt, IsFieldRead};
 
 use crate::field::{column_of, field_start, moment_of, string_len, switch_of, word_end};
 use crate::line::{Column, LineFault, MAX_LINE};
@@ -38,7 +38,7 @@ pub struct Word<'a> {
 
 impl Word<'_> {
     /// The fault of a line that is bad at this word.
-    pub fn is_bad(&self) -> LineFault
+    pub fn fault(&self) -> LineFault
         ensures { result ≡ LineFault.BadLine self.now.column }
     {
         LineFault::BadLine {
@@ -77,64 +77,59 @@ impl<'a> Fields<'a> {
     /// A number.
     #[tactic(auto, unfolding(crate::specs::Field::word_field))]
     pub fn number(&mut self) -> Result<u64, LineFault>
-        ensures ok { IfOk result (λ number. word_field number_of self.old.line self.old.place ≡ Ok (number, self.new.place)) }
-        ensures err { IfErr result (IsBadAt (word_field number_of self.old.line self.old.place)) }
+        ensures read { IsFieldRead (word_field number_of self.old.line self.old.place) result self.new.place }
         ensures line { self.new.line ≡ self.old.line }
     {
         let word = self.next_word();
         match number_of(word.bytes) {
             Some(number) => Ok(number),
-            None => Err(word.is_bad()),
+            None => Err(word.fault()),
         }
     }
 
     /// A moment.
     #[tactic(auto, unfolding(crate::specs::Field::word_field))]
     pub fn moment(&mut self) -> Result<Moment, LineFault>
-        ensures ok { IfOk result (λ moment. word_field moment_of self.old.line self.old.place ≡ Ok (moment, self.new.place)) }
-        ensures err { IfErr result (IsBadAt (word_field moment_of self.old.line self.old.place)) }
+        ensures read { IsFieldRead (word_field moment_of self.old.line self.old.place) result self.new.place }
         ensures line { self.new.line ≡ self.old.line }
     {
         let word = self.next_word();
         match moment_of(word.bytes) {
             Some(moment) => Ok(moment),
-            None => Err(word.is_bad()),
+            None => Err(word.fault()),
         }
     }
 
     /// `on` or `off`.
     #[tactic(auto, unfolding(crate::specs::Field::word_field))]
     pub fn switch(&mut self) -> Result<bool, LineFault>
-        ensures ok { IfOk result (λ on. word_field switch_of self.old.line self.old.place ≡ Ok (on, self.new.place)) }
-        ensures err { IfErr result (IsBadAt (word_field switch_of self.old.line self.old.place)) }
+        ensures read { IsFieldRead (word_field switch_of self.old.line self.old.place) result self.new.place }
         ensures line { self.new.line ≡ self.old.line }
     {
         let word = self.next_word();
         match switch_of(word.bytes) {
             Some(on) => Ok(on),
-            None => Err(word.is_bad()),
+            None => Err(word.fault()),
         }
     }
 
     /// A list of numbers, which may be empty.
     #[tactic(auto, unfolding(crate::specs::Field::word_field))]
     pub fn list(&mut self) -> Result<Listed<'a>, LineFault>
-        ensures ok { IfOk result (λ numbers. word_field list_of self.old.line self.old.place ≡ Ok (numbers, self.new.place)) }
-        ensures err { IfErr result (IsBadAt (word_field list_of self.old.line self.old.place)) }
+        ensures read { IsFieldRead (word_field list_of self.old.line self.old.place) result self.new.place }
         ensures line { self.new.line ≡ self.old.line }
     {
         let word = self.next_word();
         match Listed::of(word.bytes) {
             Some(listed) => Ok(listed),
-            None => Err(word.is_bad()),
+            None => Err(word.fault()),
         }
     }
 
     /// A string field.
     #[tactic(auto, unfolding(crate::specs::Field::string_field))]
     pub fn string(&mut self) -> Result<Quoted<'a>, LineFault>
-        ensures ok { IfOk result (λ text. string_field self.old.line self.old.place ≡ Ok (text, self.new.place)) }
-        ensures err { IfErr result (IsBadAt (string_field self.old.line self.old.place)) }
+        ensures read { IsFieldRead (string_field self.old.line self.old.place) result self.new.place }
         ensures line { self.new.line ≡ self.old.line }
     {
         let line = self.line;

@@ -1,25 +1,24 @@
 //! The kinds of lines. Each has one function, which reads the fields that its grammar names and the end of the line
-//! before it takes memory for texts and lists.
-ghost use Rattle.std.specs.Prelude.{◌≡◌, IfOk, IfErr, Ok};
-ghost use Rattle.notifyd.specs.Fault.{IsFaultOf};
-ghost use Rattle.notifyd.specs.Grammar.{at_line, user_line, group_line, member_line, channel_line, subscribe_line, send_line, mail_line, audit_line, fields_reading};
+//! before it takes memory for texts and lists. The first word is looked for in groups of a few kinds.
+ghost use Rattle.std.specs.Prelude.{◌≤◌, length, IsUtf8};
+ghost use Rattle.notifyd.specs.Fault.{IsRead};
+ghost use Rattle.notifyd.specs.Grammar.{at_line, user_line, group_line, member_line, channel_line, subscribe_line, send_line, mail_line, audit_line, step_reading, fields_reading};
 
 use crate::fields::Fields;
-use crate::line::{Line, LineFault};
+use crate::line::{Line, LineFault, MAX_LINE};
 use chat_model::{ChannelId, GroupId, Request, UserId};
 use std::alloc::Global;
 
-/// Reads a line of fields, whose first word says what kind it is.
+/// Reads a line of fields: a request, or else another step.
 #[tactic(auto, unfolding(crate::specs::Grammar::fields_reading))]
-pub fn read_fields(alloc: Global, mut fields: Fields<'_>) -> Result<Line, LineFault>
-    requires { fields.place ≡ 0 }
-    ensures ok { IfOk result (λ line. fields_reading fields.entry.line ≡ Ok line) }
-    ensures err { IfErr result (IsFaultOf (fields_reading fields.entry.line)) }
+pub fn read_fields(alloc: Global, line: &[u8]) -> Result<Line, LineFault>
+    requires small { length line.now ≤ MAX_LINE }
+    requires utf8 { IsUtf8 line.now }
+    ensures { IsRead (fields_reading line.now) result }
 {
+    let mut fields = Fields::new(line);
     let kind = fields.next_word();
-    if kind.bytes == b"at".as_slice() {
-        read_at(&mut fields)
-    } else if kind.bytes == b"user".as_slice() {
+    if kind.bytes == b"user".as_slice() {
         read_user(alloc, &mut fields)
     } else if kind.bytes == b"group".as_slice() {
         read_group(alloc, &mut fields)
@@ -31,19 +30,34 @@ pub fn read_fields(alloc: Global, mut fields: Fields<'_>) -> Result<Line, LineFa
         read_subscribe(&mut fields)
     } else if kind.bytes == b"send".as_slice() {
         read_send(alloc, &mut fields)
+    } else {
+        read_step(line)
+    }
+}
+
+// Reads a line that is no request.
+#[tactic(auto, unfolding(crate::specs::Grammar::step_reading))]
+fn read_step(line: &[u8]) -> Result<Line, LineFault>
+    requires small { length line.now ≤ MAX_LINE }
+    requires utf8 { IsUtf8 line.now }
+    ensures { IsRead (step_reading line.now) result }
+{
+    let mut fields = Fields::new(line);
+    let kind = fields.next_word();
+    if kind.bytes == b"at".as_slice() {
+        read_at(&mut fields)
     } else if kind.bytes == b"mail".as_slice() {
         read_mail(&fields)
     } else if kind.bytes == b"audit".as_slice() {
         read_audit(&fields)
     } else {
-        Err(kind.is_bad())
+        Err(kind.fault())
     }
 }
 
 #[tactic(auto, unfolding(crate::specs::Grammar::at_line))]
 fn read_at(fields: &mut Fields<'_>) -> Result<Line, LineFault>
-    ensures ok { IfOk result (λ line. at_line fields.old.line fields.old.place ≡ Ok line) }
-    ensures err { IfErr result (IsFaultOf (at_line fields.old.line fields.old.place)) }
+    ensures { IsRead (at_line fields.old.line fields.old.place) result }
 {
     let moment = fields.moment()?;
     fields.end()?;
@@ -52,8 +66,7 @@ fn read_at(fields: &mut Fields<'_>) -> Result<Line, LineFault>
 
 #[tactic(auto, unfolding(crate::specs::Grammar::user_line))]
 fn read_user(alloc: Global, fields: &mut Fields<'_>) -> Result<Line, LineFault>
-    ensures ok { IfOk result (λ line. user_line fields.old.line fields.old.place ≡ Ok line) }
-    ensures err { IfErr result (IsFaultOf (user_line fields.old.line fields.old.place)) }
+    ensures { IsRead (user_line fields.old.line fields.old.place) result }
 {
     let name = fields.string()?;
     fields.end()?;
@@ -65,8 +78,7 @@ fn read_user(alloc: Global, fields: &mut Fields<'_>) -> Result<Line, LineFault>
 
 #[tactic(auto, unfolding(crate::specs::Grammar::group_line))]
 fn read_group(alloc: Global, fields: &mut Fields<'_>) -> Result<Line, LineFault>
-    ensures ok { IfOk result (λ line. group_line fields.old.line fields.old.place ≡ Ok line) }
-    ensures err { IfErr result (IsFaultOf (group_line fields.old.line fields.old.place)) }
+    ensures { IsRead (group_line fields.old.line fields.old.place) result }
 {
     let name = fields.string()?;
     let members = fields.list()?;
@@ -79,8 +91,7 @@ fn read_group(alloc: Global, fields: &mut Fields<'_>) -> Result<Line, LineFault>
 
 #[tactic(auto, unfolding(crate::specs::Grammar::member_line))]
 fn read_member(fields: &mut Fields<'_>) -> Result<Line, LineFault>
-    ensures ok { IfOk result (λ line. member_line fields.old.line fields.old.place ≡ Ok line) }
-    ensures err { IfErr result (IsFaultOf (member_line fields.old.line fields.old.place)) }
+    ensures { IsRead (member_line fields.old.line fields.old.place) result }
 {
     let group = GroupId(fields.number()?);
     let user = UserId(fields.number()?);
@@ -91,8 +102,7 @@ fn read_member(fields: &mut Fields<'_>) -> Result<Line, LineFault>
 
 #[tactic(auto, unfolding(crate::specs::Grammar::channel_line))]
 fn read_channel(alloc: Global, fields: &mut Fields<'_>) -> Result<Line, LineFault>
-    ensures ok { IfOk result (λ line. channel_line fields.old.line fields.old.place ≡ Ok line) }
-    ensures err { IfErr result (IsFaultOf (channel_line fields.old.line fields.old.place)) }
+    ensures { IsRead (channel_line fields.old.line fields.old.place) result }
 {
     let name = fields.string()?;
     fields.end()?;
@@ -103,8 +113,7 @@ fn read_channel(alloc: Global, fields: &mut Fields<'_>) -> Result<Line, LineFaul
 
 #[tactic(auto, unfolding(crate::specs::Grammar::subscribe_line))]
 fn read_subscribe(fields: &mut Fields<'_>) -> Result<Line, LineFault>
-    ensures ok { IfOk result (λ line. subscribe_line fields.old.line fields.old.place ≡ Ok line) }
-    ensures err { IfErr result (IsFaultOf (subscribe_line fields.old.line fields.old.place)) }
+    ensures { IsRead (subscribe_line fields.old.line fields.old.place) result }
 {
     let user = UserId(fields.number()?);
     let channel = ChannelId(fields.number()?);
@@ -115,8 +124,7 @@ fn read_subscribe(fields: &mut Fields<'_>) -> Result<Line, LineFault>
 
 #[tactic(auto, unfolding(crate::specs::Grammar::send_line))]
 fn read_send(alloc: Global, fields: &mut Fields<'_>) -> Result<Line, LineFault>
-    ensures ok { IfOk result (λ line. send_line fields.old.line fields.old.place ≡ Ok line) }
-    ensures err { IfErr result (IsFaultOf (send_line fields.old.line fields.old.place)) }
+    ensures { IsRead (send_line fields.old.line fields.old.place) result }
 {
     let sender = UserId(fields.number()?);
     let channel = ChannelId(fields.number()?);
@@ -133,8 +141,7 @@ fn read_send(alloc: Global, fields: &mut Fields<'_>) -> Result<Line, LineFault>
 
 #[tactic(auto, unfolding(crate::specs::Grammar::mail_line))]
 fn read_mail(fields: &Fields<'_>) -> Result<Line, LineFault>
-    ensures ok { IfOk result (λ line. mail_line fields.now.line fields.now.place ≡ Ok line) }
-    ensures err { IfErr result (IsFaultOf (mail_line fields.now.line fields.now.place)) }
+    ensures { IsRead (mail_line fields.now.line fields.now.place) result }
 {
     fields.end()?;
     Ok(Line::Mail)
@@ -142,8 +149,7 @@ fn read_mail(fields: &Fields<'_>) -> Result<Line, LineFault>
 
 #[tactic(auto, unfolding(crate::specs::Grammar::audit_line))]
 fn read_audit(fields: &Fields<'_>) -> Result<Line, LineFault>
-    ensures ok { IfOk result (λ line. audit_line fields.now.line fields.now.place ≡ Ok line) }
-    ensures err { IfErr result (IsFaultOf (audit_line fields.now.line fields.now.place)) }
+    ensures { IsRead (audit_line fields.now.line fields.now.place) result }
 {
     fields.end()?;
     Ok(Line::Audit)

@@ -3,10 +3,9 @@ ghost use Rattle.std.specs.Prelude.{◌≡◌, ◌≤◌, List, length, IfOk, If
 ghost use Rattle.std.specs.List.{list_all};
 ghost use Rattle.notifyd.specs.Field.{is_space};
 ghost use Rattle.notifyd.specs.Grammar.{reading, content_reading, body_of, content_of, ends_in, without_last, is_nothing};
-ghost use Rattle.notifyd.specs.Fault.{MatchesFault, IsFaultOf};
+ghost use Rattle.notifyd.specs.Fault.{MatchesFault, IsRead};
 
 use crate::field::column_of;
-use crate::fields::Fields;
 use crate::kinds::read_fields;
 use chat_model::{Moment, OutOfMemory, Request};
 use std::alloc::Global;
@@ -77,13 +76,12 @@ pub fn read_line(alloc: Global, bytes: &[u8]) -> Result<Line, LineFault>
 fn read_content(alloc: Global, line: &[u8]) -> Result<Line, LineFault>
     requires small { length line.now ≤ MAX_LINE }
     requires utf8 { IsUtf8 line.now }
-    ensures ok { IfOk result (λ read. content_reading line.now ≡ Ok read) }
-    ensures err { IfErr result (IsFaultOf (content_reading line.now)) }
+    ensures { IsRead (content_reading line.now) result }
 {
     if is_nothing(line) {
         return Ok(Line::Nothing);
     }
-    read_fields(alloc, Fields::new(line))
+    read_fields(alloc, line)
 }
 
 #[tactic(auto, unfolding(crate::specs::Grammar::is_nothing))]

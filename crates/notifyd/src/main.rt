@@ -37,6 +37,8 @@ use std::{env, io};
 #[cfg(test)]
 mod listed_tests;
 #[cfg(test)]
+mod play_tests;
+#[cfg(test)]
 mod request_tests;
 #[cfg(test)]
 mod run_tests;

@@ -29,15 +29,15 @@ pub const MAX_SCRIPT: usize = 67_108_864;
 /// A play under way.
 #[derive(Drop)]
 pub struct Play<K: Keeper> {
-    alloc: Global,
-    office: Office<K>,
-    clock: Moment,
-    met: Met,
+    pub alloc: Global,
+    pub office: Office<K>,
+    pub clock: Moment,
+    pub met: Met,
     /// The number of the line played last, from 1.
-    number: u64,
+    pub number: u64,
     /// How many bytes were taken from the source.
-    taken: usize,
-    line: UnderWay,
+    pub taken: usize,
+    pub line: UnderWay,
 }
 
 impl<K: Keeper> Model for Play<K> {

@@ -13,7 +13,7 @@ use office::MailAnswer;
 use std::alloc::Global;
 
 /// What a line is answered.
-#[derive(Clone, Copy, Debug, PartialEq, Eq)]
+#[derive(Debug, PartialEq, Eq, Drop)]
 pub enum Reply {
     /// A request was granted.
     Answer(Answer),

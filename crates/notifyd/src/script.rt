@@ -13,8 +13,8 @@ use keeper::Keeper;
 pub const PIECE: usize = 4_096;
 
 impl<K: Keeper> Play<K> {
-    // Takes the bytes one by one, and plays each line that they complete.
-    fn take_piece<O: Sink>(self, piece: &[u8], out: &mut O) -> Next<K>
+    /// Takes the bytes one by one, and plays each line that they complete.
+    pub fn take_piece<O: Sink>(self, piece: &[u8], out: &mut O) -> Next<K>
         requires short { length self.under_way ≤ MAX_LINE }
         requires room { self.taken + length piece.now ≤ MAX_SCRIPT }
         ensures { Goes K.kept K.faults (standing K.kept K.faults self (O.written out.old) (O.faults out.old))

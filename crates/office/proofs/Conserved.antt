@@ -34,10 +34,10 @@ use Rattle.notice_ledger.proofs.RowOrder.{sum_by-rows}
 use Rattle.notice_ledger.proofs.Sums.{sum_by-map}
 use Rattle.notice_ledger.proofs.Places.{places-owed, places-not_owed}
 use Rattle.notice_ledger.proofs.LawfulLemmas.{IsLawful-nil}
-use Rattle.office.proofs.Changes.{waiting_row}
-use Rattle.office.proofs.PendingRows.{pending_rows-waiting}
+use Rattle.book_tables.specs.Changes.{waiting_row}
+use Rattle.book_tables.proofs.PendingRows.{pending_rows-waiting}
 use Rattle.office.specs.Office.{KeptStandsFor}
-use Rattle.office.proofs.RowsAfter.{rows-nil}
+use Rattle.book_tables.proofs.RowsAfter.{rows-nil}
 
 -- a sum over the rows of a journal, table by table
 sum_rows : (f : Row → ℕ) (j : List Stamped) → sum_by f (rows j) ≡ sum_by f (user_rows_from j 1 (people j)) + (sum_by f (message_rows_from 1 (messages j)) + (sum_by f (map waiting_row (waiting j)) + sum_by f (outbox_rows_from 1 (outbox j))))

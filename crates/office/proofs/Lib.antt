@@ -1,13 +1,2 @@
-pub mod Changes
-pub mod PendingRows
-pub mod RowsAfter
-pub mod Steps
-pub mod TableSteps
-pub mod Numbered
-pub mod Standing
-pub mod Following
-pub mod UserSets
-pub mod SetSizes
-pub mod After
 pub mod Offices
 pub mod Conserved

@@ -19,68 +19,42 @@ use Rattle.notice_ledger.specs.Refusals as any
 use Rattle.notice_ledger.specs.Due.{DueUser, first_due}
 use Rattle.notice_ledger.specs.InOrder.{in_order}
 use Rattle.notice_ledger.proofs.InOrder.{in_order-may_stand}
-use Rattle.notice_ledger.specs.Past.Rows.{rows}
+use Rattle.notice_ledger.specs.Rows.{rows}
+use Rattle.notice_ledger.specs.Past.Rows as past_rows
 use Rattle.notice_ledger.specs.Lawful.{lawful, IsLawful, is_lawful_after}
 use Rattle.notice_ledger.specs.Past.Lawful as past
 use Rattle.notice_ledger.specs.Past.Lawful.{may_stand}
 use Rattle.notice_ledger.proofs.LawfulLemmas.{IsLawful-nil, IsLawful-append}
-use Rattle.office.specs.declared.tables.Tables.{Tables}
-use Rattle.office.specs.declared.prepared.Effect.{Effect}
-use Rattle.office.specs.declared.prepared.Effect.TheVariants as effect
-use Rattle.office.specs.Tables.{StandsFor}
-use Rattle.office.specs.Prepared.{changes_in, Fits}
-use Rattle.office.specs.Applied.{IsApplied, names_after, bots_after, groups_after, members_after, channels_after, subscribers_after, messages_after, waiting_after, outbox_after}
+use Rattle.book_tables.specs.declared.tables.Tables.{Tables}
+use Rattle.book_tables.specs.Tables.{StandsFor}
 use Rattle.office.specs.Office.{IsOffice, KeptStandsFor}
-use Rattle.office.proofs.RowsAfter.{rows-nil, rows-append}
-use Rattle.office.proofs.Following.{changes_in-changes}
-use Rattle.office.proofs.After.{same_stands, stands_after}
+use Rattle.book_tables.proofs.RowsAfter.{rows-nil}
 
-pub same_office : (old new : Tables) (j : List Stamped) (told : Option Kept) → IsOffice told j old → IsApplied old new effect.Nothing → IsOffice told j new
+-- tables that stand for the same leave an office one
+pub same_office : (old new : Tables) (j : List Stamped) (told : Option Kept) → IsOffice told j old → ((k : List Stamped) → StandsFor old k → StandsFor new k) → IsOffice told j new
 same_office old new j told office same = record {
   lawful = office.lawful;
-  tables = same_stands old new j office.tables same;
+  tables = same j office.tables;
   kept = office.kept;
 }
 
--- room that was made first changes nothing of an effect
-through : (old mid new : Tables) (e : Effect) → IsApplied old mid effect.Nothing → IsApplied mid new e → IsApplied old new e
-through old mid new e reserved applied = record {
-  names = applied.names ∙ ap (names_after e) reserved.names;
-  bots = applied.bots ∙ ap (bots_after e) reserved.bots;
-  groups = applied.groups ∙ ap (groups_after e) reserved.groups;
-  members = applied.members ∙ ap (members_after e) reserved.members;
-  channels = applied.channels ∙ ap (channels_after e) reserved.channels;
-  subscribers = applied.subscribers ∙ ap (subscribers_after e) reserved.subscribers;
-  messages = applied.messages ∙ ap (messages_after e) reserved.messages;
-  waiting = applied.waiting ∙ ap (waiting_after e) reserved.waiting;
-  outbox = applied.outbox ∙ ap (outbox_after e) reserved.outbox;
-}
-
-second : (a b : Bool) → (a && b) ≡ true → b ≡ true
-second true b h = h
-second false b h = absurd (cc)
-
 -- what is kept stands for the journal with the event, once the event's changes are kept
-kept_after : (told : Option Kept) (j : List Stamped) (s : Stamped) (t : Tables) (cs : List RowChange) → IsLawful j → is_lawful_after j s ≡ true → StandsFor t j → cs ≡ changes_in t s.at s.event → IfSome told (KeptStandsFor j) → IfSome (option_map (committed s cs) told) (KeptStandsFor (j ++ s ∷ []))
-kept_after None j s t cs is_lawful next stands are kept = tt
-kept_after (Some k) j s t cs is_lawful next stands are kept = (
-  ap (λ x. x ++ s ∷ []) kept.0,
-  ap (changed_all cs) (kept.1 ∙ ap rows is_lawful)
-      ∙ (ap (λ x. changed_all x (rows j)) (are ∙ changes_in-changes t j stands s.at s.event) ∙ (sym (rows-append j s) ∙ ap rows (sym (IsLawful-append j s is_lawful next)))),
-)
+kept_after : (told : Option Kept) (j : List Stamped) (s : Stamped) (cs : List RowChange) → changed_all cs (rows j) ≡ rows (j ++ s ∷ []) → IfSome told (KeptStandsFor j) → IfSome (option_map (committed s cs) told) (KeptStandsFor (j ++ s ∷ []))
+kept_after None j s cs are kept = tt
+kept_after (Some k) j s cs are kept = (ap (λ x. x ++ s ∷ []) kept.0, ap (changed_all cs) kept.1 ∙ are)
 
--- a lawful event that was prepared, kept and made
-pub office_after : (old mid new : Tables) (j : List Stamped) (s : Stamped) (told : Option Kept) (cs : List RowChange) (e : Effect) → is_lawful_after j s ≡ true → IsOffice told j old
-    → cs ≡ changes_in old s.at s.event → Fits old s.at s.event e → IsApplied old mid effect.Nothing → IsApplied mid new e → IsOffice (option_map (committed s cs) told) (j ++ s ∷ []) new
-office_after old mid new j s told cs e next office are fits reserved applied = record {
+-- a lawful event that was kept and applied
+pub office_after : (old new : Tables) (j : List Stamped) (s : Stamped) (told : Option Kept) (cs : List RowChange) → is_lawful_after j s ≡ true → IsOffice told j old → changed_all cs (rows j) ≡ rows (j ++ s ∷ []) → StandsFor new (j ++ s ∷ [])
+    → IsOffice (option_map (committed s cs) told) (j ++ s ∷ []) new
+office_after old new j s told cs next office are stands = record {
   lawful = IsLawful-append j s office.lawful next;
-  tables = stands_after old new j office.tables s.at s.event e (second (nat_le (last_stamp j) s.at) (may_stand j s.at s.event) (sym (ap (λ k. past.is_lawful_after k s) office.lawful) ∙ next)) fits (through old mid new e reserved applied);
-  kept = kept_after told j s old cs office.lawful next office.tables are office.kept;
+  tables = stands;
+  kept = kept_after told j s cs are office.kept;
 }
 
 empty_kept : (told : Option Kept) (loaded : Kept) → IfSome told (λ k. loaded ≡ k) → loaded.journal ≡ [] → loaded.rows ≡ [] → IfSome told (KeptStandsFor [])
 empty_kept None loaded same journal rows = tt
-empty_kept (Some k) loaded same no_event no_row = (ap (λ (x : Kept). x.journal) (sym same) ∙ no_event, ap (λ (x : Kept). x.rows) (sym same) ∙ (no_row ∙ (sym rows-nil ∙ ap rows (sym IsLawful-nil))))
+empty_kept (Some k) loaded same no_event no_row = (ap (λ (x : Kept). x.journal) (sym same) ∙ no_event, ap (λ (x : Kept). x.rows) (sym same) ∙ (no_row ∙ (sym rows-nil ∙ ap past_rows.rows (sym IsLawful-nil))))
 
 -- an office before its first event, over what was loaded empty
 pub empty_office : (told : Option Kept) (loaded : Kept) (t : Tables) → StandsFor t [] → IfSome told (λ k. loaded ≡ k) → loaded.journal ≡ [] → loaded.rows ≡ [] → IsOffice told [] t

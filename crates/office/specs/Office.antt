@@ -2,20 +2,16 @@
 use Rattle.std.specs.Prelude.{◌≡◌, ℕ, ◌+◌, ◌<◌, ◌≤◌, List, [], ◌∷◌, ◌++◌, Option, Some, IfSome, option_map, length}
 use Rattle.chat_model.specs.declared.event.Stamped.{Stamped}
 use Rattle.chat_model.specs.declared.event.Event.TheVariants.{MailTurn}
-use Rattle.chat_model.specs.declared.request.Request.{Request}
-use Rattle.chat_model.specs.declared.request.Request.TheVariants.{AddUser, AddGroup, Member, AddChannel, Subscribe, Send}
-use Rattle.chat_model.specs.declared.request.Answer.{Answer}
-use Rattle.chat_model.specs.declared.request.Answer.TheVariants as answer
 use Rattle.keeper.specs.declared.keeper.Kept.{Kept}
-use Rattle.notice_ledger.specs.Past.Values.{people, groups, channels, messages, deal_count}
 use Rattle.notice_ledger.specs.Due.{DueUser, batch_rows, first_due}
 use Rattle.notice_ledger.specs.Outbox.{mail_entries}
 use Rattle.notice_ledger.specs.Rows.{rows}
-use Rattle.notice_ledger.specs.Lawful.{lawful, IsLawful}
+use Rattle.notice_ledger.specs.Lawful.{IsLawful}
 use Rattle.office.specs.declared.answer.MailAnswer.{MailAnswer}
 use Rattle.office.specs.declared.answer.MailAnswer.TheVariants.{Mailed, NotDue}
-use Rattle.office.specs.declared.tables.Tables.{Tables}
-use Rattle.office.specs.Tables.{StandsFor}
+use Rattle.book_tables.specs.declared.tables.Tables.{Tables}
+use Rattle.book_tables.specs.Tables.{StandsFor}
+pub use Rattle.book_tables.specs.Answers.{answer_of}
 
 -- an office is seen as its journal and its keeper
 pub record OfficeSeen (K : Type 0) : Type 0 where
@@ -31,19 +27,6 @@ pub record IsOffice (told : Option Kept) (j : List Stamped) (t : Tables) : Type 
   pub lawful : IsLawful j
   pub tables : StandsFor t j
   pub kept : IfSome told (KeptStandsFor j)
-
--- the answer to a request that is not refused, behind events that all count
-abbrev pub answer_after : List Stamped → Request → Answer
-answer_after j (AddUser name bot) = answer.User (record { 0 = length (people j) + 1 })
-answer_after j (AddGroup name members) = answer.Group (record { 0 = length (groups j) + 1 })
-answer_after j (Member group user on) = answer.Done
-answer_after j (AddChannel name) = answer.Channel (record { 0 = length (channels j) + 1 })
-answer_after j (Subscribe user channel on) = answer.Done
-answer_after j (Send sender channel topic text) = answer.Sent (record { 0 = length (messages j) + 1 }) (record { 0 = deal_count j })
-
--- the answer to a request that is not refused, after any list of events
-abbrev pub answer_of : List Stamped → Request → Answer
-answer_of j request = answer_after (lawful j) request
 
 -- no due moment is at most the stamp
 abbrev pub NoneIsDue : List Stamped → ℕ → Type 0

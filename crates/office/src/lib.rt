@@ -1,16 +1,10 @@
-//! The office: the journal, and the tables that follow from it.
+//! The office: the journal, what is kept of it, and the calls that add an event.
 #![tactic(auto)]
 
 mod answer;
-mod apply;
-mod notices;
 mod office;
-mod prepared;
-mod refusal;
-mod tables;
 #[cfg(test)]
 mod tests;
-mod user_set;
 
 pub use answer::{AskFault, MailAnswer, StartFault, StepFault};
 pub use office::Office;

@@ -3,7 +3,6 @@ ghost use Rattle.std.specs.Prelude.{◌≡◌, ℕ, ◌+◌, ◌≤◌, ◌<◌,
 ghost use Rattle.chat_model.specs.Counts.{HasRisen};
 ghost use Rattle.chat_model.specs.declared.event.Event.TheVariants.{Restart, Asked};
 ghost use Rattle.chat_model.specs.declared.request.Refusal.{Refusal};
-ghost use Rattle.notice_ledger.specs.Past.Journal as past;
 ghost use Rattle.notice_ledger.specs.Journal.{stamp};
 ghost use Rattle.notice_ledger.specs.Refusals.{refusal};
 ghost use Rattle.notice_ledger.specs.InOrder.{in_order};
@@ -12,8 +11,8 @@ ghost use Rattle.notice_ledger.specs.Conserved.{IsConserved};
 ghost use Rattle.office.specs.Office.{IsOffice, KeptStandsFor};
 ghost use Rattle.office.specs.Faults.{faults_in_step, faults_in_ask, faults_in_start};
 
-use crate::tables::{DueUser, Tables};
 use crate::{AskFault, MailAnswer, StartFault, StepFault};
+use book_tables::{DueUser, Tables};
 use chat_model::{Answer, Counts, Event, Moment, Refusal, Request, Stamped, UserId};
 use keeper::Keeper;
 use notice_ledger::in_order;
@@ -58,27 +57,17 @@ fn record_event<K: Keeper>(
     ensures most { K.faults keeper.new ≤ K.faults keeper.old + faults_in_step result }
 {
     let prepared = tables.prepare(&stamped)?;
-    tables.reserve(&prepared.effect)?;
+    tables.reserve(&prepared)?;
     journal.reserve(1)?;
-    keeper.commit(&stamped, &prepared.changes)?;
-    tables.apply(prepared.effect);
+    keeper.commit(&stamped, prepared.changes())?;
+    tables.apply(prepared);
     journal.push_reserved(stamped);
     Ok(())
 }
 
-/// The greater of a moment and the stamp of the last of these events.
-fn stamp_after(journal: &[Stamped], now: Moment) -> Moment
-    ensures { result ≡ past.stamp journal.now now }
-{
-    match journal.last() {
-        Some(last) if now < last.at => last.at,
-        _ => now,
-    }
-}
-
 impl<K: Keeper> Office<K> {
     ghost use Rattle.office.specs.Office.{answer_of, NoneIsDue, least_due, IsMailTurn};
-    ghost use Rattle.office.specs.Tables.{found_due};
+    ghost use Rattle.book_tables.specs.Tables.{found_due};
     ghost use Rattle.notice_ledger.specs.Due.{first_due, batch_rows};
     ghost use Rattle.notice_ledger.specs.Outbox.{outbox};
     ghost use Rattle.notice_ledger.specs.Audit.{counts_of};
@@ -141,21 +130,22 @@ impl<K: Keeper> Office<K> {
     pub fn audit(&self) -> Counts
         ensures { result ≡ counts_of self.now.journal }
     {
-        self.tables.counts()
+        self.tables.audit()
     }
 
     /// The stamp of what is asked at a moment: the greater of the moment and the last stamp.
     fn stamp(&self, now: Moment) -> Moment
         ensures { result ≡ stamp self.now.journal now }
     {
-        stamp_after(&self.journal, now)
+        let last = self.tables.last_stamp();
+        if now < last { last } else { now }
     }
 
     /// Why the request is refused.
     fn refusal(&self, request: &Request) -> Option<Refusal>
         ensures { result ≡ refusal self.now.journal request.now }
     {
-        self.tables.refusal(request)
+        self.tables.check(request)
     }
 
     /// The answer to a request that is not refused.
@@ -176,14 +166,14 @@ impl<K: Keeper> Office<K> {
     fn batch_rows(&self, user: UserId) -> usize
         ensures { result ≡ length (batch_rows self.now.journal user) }
     {
-        self.tables.mails(user)
+        self.tables.batch_rows(user)
     }
 
     /// How many entries the outbox has.
     fn entries(&self) -> usize
         ensures { result ≡ length (outbox self.now.journal) }
     {
-        self.tables.outbox.len()
+        self.tables.entries()
     }
 
     /// Keeps a lawful event and follows it.

@@ -5,6 +5,7 @@ use chat_model::{
     Request, Row, Stamped, Text, UserId,
 };
 use keeper::{Keeper, MemoryKeeper};
+use notice_ledger::audit;
 use std::alloc::Global;
 use std::process::Abort;
 use std::test::Fail;
@@ -317,4 +318,45 @@ fn a_kept_journal_is_not_empty(rt: HostRuntime) -> Result<(), Fail> {
             Ok(())
         }
     }
+}
+
+// Asks, or makes a mail turn where nothing is asked. The slow computation counts then what the office counts.
+fn step(
+    rt: &impl Abort,
+    alloc: Global,
+    office: &mut Office<MemoryKeeper>,
+    seconds: u64,
+    request: Option<Request>,
+) -> Result<(), Fail> {
+    let now = moment(rt, seconds);
+    match request {
+        Some(request) => {
+            let _ = office.ask(request, now);
+        }
+        None => {
+            let _ = office.mail_turn(now);
+        }
+    }
+    assert_eq!(rt; audit(alloc, office.journal())?, office.audit());
+    Ok(())
+}
+
+#[test]
+fn the_slow_counts_agree_after_each_step(rt: HostRuntime) -> Result<(), Fail> {
+    let alloc = rt.alloc();
+    let mut office = team(&rt, alloc, List::new(alloc))?;
+    let mut steps = Vec::new(alloc);
+    steps.push((100, Some(send(alloc, 1, 1)?)))?;
+    steps.push((219, None))?;
+    steps.push((219, Some(group(alloc, "ops", &[2])?)))?;
+    steps.push((219, Some(message(alloc, "@*Ops*, please look")?)))?;
+    steps.push((219, Some(subscription(2, false))))?;
+    steps.push((219, Some(message(alloc, "@*Ops*")?)))?;
+    steps.push((220, None))?;
+    steps.push((220, None))?;
+    for (seconds, request) in steps {
+        step(&rt, alloc, &mut office, seconds, request)?;
+    }
+    assert_eq!(rt; office.audit(), counts(2, 2));
+    Ok(())
 }

@@ -87,6 +87,14 @@ impl<T: Post> Hub<T> {
         self.next
     }
 
+    /// Lends the pipe.
+    pub fn pipe(&self) -> &T
+        ensures sent { T.sent result.now ≡ self.now.sent }
+        ensures taken { T.taken result.now ≡ self.now.taken }
+    {
+        self.sender.pipe()
+    }
+
     /// Registers a further queue for the user, and polls it.
     pub fn register(&mut self, user: UserId, now: Moment) -> Result<QueueId, OutOfMemory>
         ensures id { IfOk result (λ id. id ≡ record { run = self.old.run; number = length self.old.registrations + 1 }) }

@@ -8,6 +8,8 @@ mod hub;
 mod queue;
 mod queues;
 mod sender;
+#[cfg(test)]
+mod tests;
 mod waiting;
 
 pub use answer::{DealAnswer, HubFault, QueueItem, SweepAnswer};

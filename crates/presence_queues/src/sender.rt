@@ -53,6 +53,13 @@ impl<T: Post> Sender<T> {
         }
     }
 
+    /// Lends the pipe.
+    pub fn pipe(&self) -> &T
+        ensures { record { sent = T.sent result.now; taken = T.taken result.now } ≡ self.now }
+    {
+        &self.pipe
+    }
+
     /// The deals that are outstanding for the user.
     pub fn outstanding(&self, user: UserId) -> &[DealNo]
         ensures { result.now ≡ outstanding self.now.sent user }

@@ -1,5 +1,5 @@
 use Rattle.notice_ledger.specs.Lawful.{lawful}
-use Rattle.notice_ledger.proofs.Refused.{rules_of-ascend}
+use Rattle.notice_ledger.proofs.RuleOrder.{rules_of-ascend}
 use Rattle.notice_ledger.proofs.laws.rules_ascend.Goals as goal
 
 pub returns : goal.returns

@@ -1,4 +1,3 @@
-use Rattle.std.proofs.Common.{refl, arith}
 use Rattle.notifyd.proofs.RunLemmas.{went_from}
 use Rattle.notifyd.proofs.command.play.Goals as goal
 

@@ -1,9 +1,8 @@
 use Rattle.std.proofs.Common.{refl, ap}
 use Rattle.notifyd.specs.Status.{status_number}
-use Rattle.notifyd.specs.Run.{Devices, devices}
+use Rattle.notifyd.specs.Run.{devices}
 use Rattle.notifyd.specs.declared.ending.Ending.TheVariants.{SinkFault}
 use Rattle.notifyd.proofs.RunLemmas.{went_last, went_unwritten}
-use Rattle.notifyd.proofs.command.play_script.Given.{Over}
 use Rattle.notifyd.proofs.command.play_script.Goals as goal
 
 pub returns-in-Ok-clause-ran : goal.returns-in-Ok-clause-ran

@@ -1,12 +1,16 @@
 use Rattle.std.proofs.Common.{List, [], ◌∷◌, ◌++◌, Option, sym, ap, ◌∙◌, subst}
 use Rattle.std.specs.Prelude.{option_map}
 use Rattle.chat_model.specs.declared.event.Stamped.{Stamped}
-use Rattle.keeper.specs.declared.keeper.Kept.{Kept}
 use Rattle.chat_model.specs.declared.row.RowChange.{RowChange}
+use Rattle.keeper.specs.declared.keeper.Kept.{Kept}
 use Rattle.keeper.specs.Kept.{committed}
+use Rattle.book_tables.specs.Prepared.{changes_of}
 use Rattle.office.specs.Office.{IsOffice}
 use Rattle.office.proofs.Offices.{same_office, office_after}
 use Rattle.office.proofs.office.record_event.Goals as goal
+
+pub prepare-requires : goal.prepare-requires
+prepare-requires g c = (c.args.journal.now.items, c.requires.office.tables, c.requires.lawful)
 
 pub returns-in_err-reserve-clause-office : goal.returns-in_err-reserve-clause-office
 returns-in_err-reserve-clause-office g c = same_office c.args.tables.now c.reserve.new.self c.args.journal.now.items (g.K.Keeper.kept c.args.keeper.now) c.requires.office c.reserve.ensures.same
@@ -24,8 +28,10 @@ returns-in_err-commit-clause-office g c =
 
 pub returns-clause-office : goal.returns-clause-office
 returns-clause-office g c =
-    let told = g.K.Keeper.kept c.args.keeper.now in let s = c.args.stamped in
-    let cs = c.in_ok-prepared.prepared.changes.items in let j = c.args.journal.now.items in
+    let told = g.K.Keeper.kept c.args.keeper.now in let s = c.args.stamped in let j = c.args.journal.now.items in
+    let p = c.in_ok-prepared.prepared in let stands = c.requires.office.tables in
     subst (λ (x : List Stamped). IsOffice (g.K.Keeper.kept c.commit.new.self) x c.apply.new.self) (sym (c.push_reserved.ensures.items ∙ ap (λ x. x ++ s ∷ []) c.reserve-2.ensures.items))
-    (subst (λ (k : Option Kept). IsOffice k (j ++ s ∷ []) c.apply.new.self) (sym (c.in_ok-commit.ensures.ok ∙ ap (λ (x : List RowChange). option_map (committed s x) told) c.deref.ensures.value))
-    (office_after c.args.tables.now c.reserve.new.self c.apply.new.self j s told cs c.in_ok-prepared.prepared.effect c.requires.lawful c.requires.office c.in_ok-prepared.ensures.changes c.in_ok-prepared.ensures.effect c.reserve.ensures.same c.apply.ensures))
+    (subst (λ (k : Option Kept). IsOffice k (j ++ s ∷ []) c.apply.new.self) (sym (c.in_ok-commit.ensures.ok ∙ ap (λ (x : List RowChange). option_map (committed s x) told) c.changes.ensures))
+    (office_after c.args.tables.now c.apply.new.self j s told (changes_of p) c.requires.lawful c.requires.office
+    (c.in_ok-prepared.ensures.changes j stands c.requires.lawful)
+    (c.apply.ensures j s (c.reserve.ensures.same j stands) c.requires.lawful (c.in_ok-prepared.ensures.prepared j stands))))

@@ -1,4 +1,3 @@
-use Rattle.std.proofs.Common.{◌≡◌, [], ◌∷◌, refl, sym, ap, ◌∙◌, subst}
 use Rattle.notifyd.specs.declared.ending.Ending.TheVariants.{InputEnded}
 use Rattle.notifyd.proofs.GoingLemmas.{HaveCounted-same}
 use Rattle.notifyd.proofs.PlayingLemmas.{ended_at_end}

@@ -1,11 +1,9 @@
-use Rattle.std.proofs.Common.{◌≡◌, ◌+◌, [], ◌∷◌, refl, sym, ap, ◌∙◌, subst}
-use Rattle.chat_model.specs.Counts.{HasRisen}
+use Rattle.std.proofs.Common.{◌≡◌, ◌+◌, [], ◌∷◌, sym, ap, ◌∙◌, subst}
 use Rattle.notifyd.specs.Playing.{Playing}
-use Rattle.notifyd.specs.Going.{Standing, standing, EndsAmong, HaveCounted}
+use Rattle.notifyd.specs.Going.{standing, EndsAmong, HaveCounted}
 use Rattle.notifyd.specs.declared.ending.Ending.TheVariants.{BadLine, SinkFault}
-use Rattle.notifyd.proofs.GoingLemmas.{PlaysOne, Answers-one, FailsToAnswer-one, ComesToBadLine-one, HaveCounted-same}
+use Rattle.notifyd.proofs.GoingLemmas.{Answers-one, FailsToAnswer-one, ComesToBadLine-one, HaveCounted-same}
 use Rattle.notifyd.proofs.PlayingLemmas.{line_answered, ended_among}
-use Rattle.notifyd.proofs.play.Play.play_line.Given.{Over}
 use Rattle.notifyd.proofs.play.Play.play_line.Goals as goal
 
 pub returns-in-Ok-write_answer : goal.returns-in-Ok-write_answer

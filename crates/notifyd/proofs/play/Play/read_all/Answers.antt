@@ -1,4 +1,4 @@
-use Rattle.std.proofs.Common.{◌≤◌, length, sym, subst, arith, ℕ, List}
+use Rattle.std.proofs.Common.{◌≤◌, length, sym, subst, ℕ, List}
 use Rattle.notifyd.specs.Grammar.{max_line}
 use Rattle.notifyd.proofs.CutLemmas.{rest-short}
 use Rattle.notifyd.proofs.PlayingLemmas.{reads_on_none, reads_on_then, ended_reading_then}

@@ -1,12 +1,11 @@
-use Rattle.std.proofs.Common.{◌≡◌, ℕ, ◌+◌, ◌-◌, ◌<◌, ◌≤◌, min, List, [], length, take, sym, ap, subst, arith}
+use Rattle.std.proofs.Common.{◌≡◌, ℕ, ◌+◌, ◌-◌, ◌≤◌, min, List, [], length, take, sym, subst, arith}
 use Rattle.std.proofs.lemmas.List.{length-take-le}
 use Rattle.notifyd.specs.declared.ending.Ending.TheVariants.{SourceFault, TooLong}
 use Rattle.notifyd.specs.Cut.{max_script, begun, cut_on}
-use Rattle.notifyd.specs.Going.{Standing, standing, Answers, EndsAmong, GoesOn, left_standing}
+use Rattle.notifyd.specs.Going.{standing, Answers, EndsAmong, GoesOn, left_standing}
 use Rattle.notifyd.proofs.GoingLemmas.{Answers-none, HaveCounted-same}
 use Rattle.notifyd.proofs.ReadingLemmas.{Gave-none, Gave-read, at_end, allowed_part, lines_of_none, EndsReading-at_end, EndsReading-among}
 use Rattle.notifyd.proofs.PlayingLemmas.{ended_reading}
-use Rattle.notifyd.proofs.play.Play.read_next.Given.{Over}
 use Rattle.notifyd.proofs.play.Play.read_next.Goals as goal
 
 pub returns-in_default : goal.returns-in_default

@@ -1,4 +1,4 @@
-use Rattle.std.proofs.Common.{◌≤◌, length, sym, ap, ◌∙◌, subst, arith, ℕ, List}
+use Rattle.std.proofs.Common.{◌≤◌, length, sym, ◌∙◌, subst, ℕ, List}
 use Rattle.notifyd.specs.Grammar.{max_line}
 use Rattle.notifyd.proofs.CutLemmas.{rest-short}
 use Rattle.notifyd.proofs.PlayingLemmas.{goes_on_none, goes_on_open, goes_on_line, ended_line}

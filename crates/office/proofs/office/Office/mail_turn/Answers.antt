@@ -6,8 +6,8 @@ use Rattle.notice_ledger.specs.Due.{batch_rows}
 use Rattle.notice_ledger.specs.Past.Outbox as past
 use Rattle.notice_ledger.specs.Lawful.{lawful}
 use Rattle.notice_ledger.proofs.LawfulLemmas.{lawful-next}
-use Rattle.office.specs.Tables.{found_due}
-use Rattle.office.proofs.Following.{mail_entries-long, outbox-mails}
+use Rattle.book_tables.specs.Tables.{found_due}
+use Rattle.book_tables.proofs.Following.{mail_entries-long, outbox-mails}
 use Rattle.office.proofs.Offices.{turn_lawful}
 use Rattle.office.proofs.office.Office.mail_turn.Goals as goal
 use Rattle.office.proofs.office.Office.mail_turn.Goals.{After-entries}

@@ -1,0 +1,11 @@
+pub mod Steps
+pub mod Numbered
+pub mod PendingRows
+pub mod RowsAfter
+pub mod UserSets
+pub mod SetSizes
+pub mod Standing
+pub mod Soonest
+pub mod SetPlaces
+pub mod Following
+pub mod After

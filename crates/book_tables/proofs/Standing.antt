@@ -1,0 +1,225 @@
+-- What look-ups in tables that stand for a journal give.
+use Rattle.std.proofs.Common.{◌≡◌, ℕ, zero, suc, ◌+◌, Bool, true, false, ◌&&◌, ◌||◌, cond, not, List, [], ◌∷◌, length, map, refl, sym, ap, ◌∙◌}
+use Rattle.std.specs.Prelude.{Option, Some, None, option_map, is_some, unwrap_or, filter, find, slice_get, nat_lt, count_by}
+use Rattle.std.specs.Str.{str_eq_ignore_ascii_case}
+use Rattle.std.specs.Option.{option_map_or}
+use Rattle.std.specs.List.{list_all, list_any, reduce, filter_map, cons_option, range_with_len, AllByRecursion}
+use Rattle.std.proofs.lemmas.List.{length-map}
+use Rattle.chat_model.specs.declared.event.Stamped.{Stamped}
+use Rattle.chat_model.specs.declared.ids.UserId.{UserId}
+use Rattle.chat_model.specs.declared.ids.ChannelId.{ChannelId}
+use Rattle.chat_model.specs.declared.ids.GroupId.{GroupId}
+use Rattle.chat_model.specs.declared.mentions.UserName.{UserName}
+use Rattle.chat_model.specs.declared.mentions.GroupName.{GroupName}
+use Rattle.notice_ledger.specs.Past.Values.{numbered, Person, people, named_from, user_names, user_name, users, is_user, is_bot, messages, deal_count, named_groups_from, groups, group_names, group_name, is_group, is_member, member_count, channels, is_channel, channel_name, subscribed, subscriber_count}
+use Rattle.notice_ledger.specs.Past.Owed.{waiting}
+use Rattle.notice_ledger.specs.Past.Due.{due, batch_rows}
+use Rattle.notice_ledger.specs.Past.Refusals.{is_taken}
+use Rattle.chat_model.specs.declared.counts.Counts.{Counts}
+use Rattle.notice_ledger.specs.Past.Audit.{counts_of, in_64_bits}
+use Rattle.notice_ledger.proofs.Sent.{deal_count-messages}
+use Rattle.notice_ledger.proofs.Batches.{is_mail_of, due-waiting, batch_rows-waiting}
+use Rattle.notice_ledger.proofs.Sums.{sum_by_same}
+use Rattle.notice_ledger.proofs.Audited.{counts_of-waiting}
+use Rattle.book_tables.specs.declared.tables.Waiting.{Waiting}
+use Rattle.book_tables.specs.declared.tables.Tables.{Tables}
+use Rattle.book_tables.specs.UserSets.{has_in, size_in}
+use Rattle.book_tables.specs.Tables.{Holds, message_kept, notice_kept, is_mail_to}
+use Rattle.book_tables.proofs.Numbered.{numbered-map}
+use Rattle.book_tables.proofs.SetSizes.{size_in-counted}
+
+-- ---- lists
+
+is_some-map : {A B : Type 0} (f : A → B) (o : Option A) → is_some (option_map f o) ≡ is_some o
+is_some-map f None = refl
+is_some-map f (Some x) = refl
+
+pub map-map : {A B C : Type 0} (f : B → C) (g : A → B) (o : Option A) → option_map f (option_map g o) ≡ option_map (λ x. f (g x)) o
+map-map f g None = refl
+map-map f g (Some x) = refl
+
+or-map : {A B C : Type 0} (f : B → C) (g : A → B) (o : Option A) (d : C) → option_map_or f (option_map g o) d ≡ option_map_or (λ x. f (g x)) o d
+or-map f g None d = refl
+or-map f g (Some x) d = refl
+
+unwrap-map : {A B : Type 0} (f : A → B) (o : Option A) (d : B) → unwrap_or (option_map f o) d ≡ option_map_or f o d
+unwrap-map f None d = refl
+unwrap-map f (Some x) d = refl
+
+pub find-map : {A B : Type 0} (p : B → Bool) (f : A → B) (xs : List A) → find p (map f xs) ≡ option_map f (find (λ x. p (f x)) xs)
+find-map p f [] = refl
+find-map p f (x ∷ xs) =
+    elim (p (f x)) as (λ b. cond b (Some (f x)) (find p (map f xs)) ≡ option_map f (cond b (Some x) (find (λ x. p (f x)) xs))) [
+      | true ↦ refl
+      | false ↦ find-map p f xs
+    ]
+
+pub filter-map : {A B : Type 0} (p : B → Bool) (f : A → B) (xs : List A) → filter p (map f xs) ≡ map f (filter (λ x. p (f x)) xs)
+filter-map p f [] = refl
+filter-map p f (x ∷ xs) =
+    elim (p (f x)) as (λ b. cond b (f x ∷ filter p (map f xs)) (filter p (map f xs)) ≡ map f (cond b (x ∷ filter (λ x. p (f x)) xs) (filter (λ x. p (f x)) xs))) [
+      | true ↦ ap (λ ys. f x ∷ ys) (filter-map p f xs)
+      | false ↦ filter-map p f xs
+    ]
+
+pub filter_map-map : {A B C : Type 0} (h : B → Option C) (f : A → B) (xs : List A) → filter_map h (map f xs) ≡ filter_map (λ x. h (f x)) xs
+filter_map-map h f [] = refl
+filter_map-map h f (x ∷ xs) = ap (cons_option (h (f x))) (filter_map-map h f xs)
+
+pub filter_map-same : {A B : Type 0} (g h : A → Option B) → ((x : A) → g x ≡ h x) → (xs : List A) → filter_map g xs ≡ filter_map h xs
+filter_map-same g h same [] = refl
+filter_map-same g h same (x ∷ xs) = ap (λ o. cons_option o (filter_map g xs)) (same x) ∙ ap (cons_option (h x)) (filter_map-same g h same xs)
+
+-- where each element that has P gives something
+pub filter_map-given : {A B : Type 0} (P : A → Type 0) (h : A → Option B) (g : A → B) → ((x : A) → P x → h x ≡ Some (g x)) → (xs : List A) → AllByRecursion P xs → filter_map h xs ≡ map g xs
+filter_map-given P h g given [] all = refl
+filter_map-given P h g given (x ∷ xs) all = ap (λ o. cons_option o (filter_map h xs)) (given x all.0) ∙ ap (λ ys. g x ∷ ys) (filter_map-given P h g given xs all.1)
+
+-- ---- users
+
+name_at : (n : ℕ) (ps : List Person) (k : ℕ) → option_map (λ (u : UserName). u.name) (slice_get (named_from n ps) k) ≡ option_map (λ (p : Person). p.name) (slice_get ps k)
+name_at n [] k = refl
+name_at n (p ∷ ps) zero = refl
+name_at n (p ∷ ps) (suc k) = name_at (n + 1) ps k
+
+name_numbered : (j : List Stamped) (n : ℕ) → option_map (λ (u : UserName). u.name) (numbered n (user_names j)) ≡ option_map (λ (p : Person). p.name) (numbered n (people j))
+name_numbered j zero = refl
+name_numbered j (suc n) = name_at 1 (people j) n
+
+-- the numbers of the named users
+ids_from : (n : ℕ) (ps : List Person) → map (λ (u : UserName). u.id) (named_from n ps) ≡ map (λ k. let u : UserId = record { 0 = k } in u) (range_with_len n (length ps))
+ids_from n [] = refl
+ids_from n (p ∷ ps) = ap (λ us. record { 0 = n } ∷ us) (ids_from (n + 1) ps)
+
+pub ids-user_names : (j : List Stamped) → map (λ (u : UserName). u.id) (user_names j) ≡ users j
+ids-user_names j = ids_from 1 (people j)
+
+-- ---- groups
+
+group_at : (n : ℕ) (names : List (List ℕ)) (k : ℕ) → option_map (λ (g : GroupName). g.name) (slice_get (named_groups_from n names) k) ≡ slice_get names k
+group_at n [] k = refl
+group_at n (name ∷ names) zero = refl
+group_at n (name ∷ names) (suc k) = group_at (n + 1) names k
+
+group_numbered : (j : List Stamped) (n : ℕ) → option_map (λ (g : GroupName). g.name) (numbered n (group_names j)) ≡ numbered n (groups j)
+group_numbered j zero = refl
+group_numbered j (suc n) = group_at 1 (groups j) n
+
+taken_from : (n : ℕ) (names : List (List ℕ)) (name : List ℕ) → list_any (λ (g : GroupName). str_eq_ignore_ascii_case name g.name) (named_groups_from n names) ≡ list_any (str_eq_ignore_ascii_case name) names
+taken_from n [] name = refl
+taken_from n (other ∷ names) name = ap (λ b. str_eq_ignore_ascii_case name other || b) (taken_from (n + 1) names name)
+
+count_same : (p q : UserId → Bool) → ((u : UserId) → p u ≡ q u) → (us : List UserId) → count_by p us ≡ count_by q us
+count_same p q same us = sum_by_same (λ u. cond (p u) 1 0) (λ u. cond (q u) 1 0) (λ u. ap (λ b. cond b 1 0) (same u)) us
+
+-- the counts where so many notices wait and the outbox has so many entries, each of one handed notice
+abbrev pub counted : ℕ → ℕ → Counts
+counted waiting entries = record {
+  flight = 0;
+  held = 0;
+  ready = in_64_bits waiting;
+  handed = in_64_bits entries;
+  read = 0;
+  deleted = 0;
+  off = 0;
+  live = 0;
+  entries = in_64_bits entries;
+  waiting = 0;
+  written = 0;
+}
+
+module _ (t : Tables) (past : List Stamped) (holds : Holds t past) where
+  pub user-there : (u : UserId) → is_some (numbered u.0 t.names.items) ≡ is_user past u
+  user-there u =
+      ap (λ ns. is_some (numbered u.0 ns)) holds.names
+      ∙ (sym (is_some-map (λ (n : UserName). n.name) (numbered u.0 (user_names past))) ∙ (ap is_some (name_numbered past u.0) ∙ is_some-map (λ (p : Person). p.name) (numbered u.0 (people past))))
+
+  pub group-there : (g : GroupId) → is_some (numbered g.0 t.groups.items) ≡ is_group past g
+  group-there g =
+      ap (λ gs. is_some (numbered g.0 gs)) holds.groups
+      ∙ (sym (is_some-map (λ (n : GroupName). n.name) (numbered g.0 (group_names past))) ∙ ap is_some (group_numbered past g.0))
+
+  pub name-there : (u : UserId) → option_map_or (λ (n : UserName). n.name) (numbered u.0 t.names.items) [] ≡ user_name past u
+  name-there u =
+      ap (λ ns. option_map_or (λ (n : UserName). n.name) (numbered u.0 ns) []) holds.names
+      ∙ (sym (unwrap-map (λ (n : UserName). n.name) (numbered u.0 (user_names past)) []) ∙ (ap (λ o. unwrap_or o []) (name_numbered past u.0) ∙ unwrap-map (λ (p : Person). p.name) (numbered u.0 (people past)) []))
+
+  pub group_name-there : (g : GroupId) → option_map_or (λ (n : GroupName). n.name) (numbered g.0 t.groups.items) [] ≡ group_name past g
+  group_name-there g =
+      ap (λ gs. option_map_or (λ (n : GroupName). n.name) (numbered g.0 gs) []) holds.groups
+      ∙ (sym (unwrap-map (λ (n : GroupName). n.name) (numbered g.0 (group_names past)) []) ∙ ap (λ o. unwrap_or o []) (group_numbered past g.0))
+
+  pub bot-there : (u : UserId) → unwrap_or (numbered u.0 t.bots.items) false ≡ is_bot past u
+  bot-there u =
+      ap (λ bs. unwrap_or (numbered u.0 bs) false) holds.bots
+      ∙ (ap (λ o. unwrap_or o false) (numbered-map (λ (p : Person). p.bot) u.0 (people past)) ∙ unwrap-map (λ (p : Person). p.bot) (numbered u.0 (people past)) false)
+
+  -- a group is as large as the journal says
+  pub members-counted : (g : GroupId) → size_in t.members.items g.0 ≡ member_count past g
+  unfolding member_count
+  members-counted g =
+      size_in-counted (length (groups past)) (length (people past)) t.members.items g.0 holds.member_sets
+      ∙ count_same (λ u. has_in t.members.items g.0 u) (is_member past g) (holds.members g) (users past)
+
+  -- and a channel
+  pub subscribers-counted : (c : ChannelId) → size_in t.subscribers.items c.0 ≡ subscriber_count past c
+  unfolding subscriber_count
+  subscribers-counted c =
+      size_in-counted (length (channels past)) (length (people past)) t.subscribers.items c.0 holds.subscriber_sets
+      ∙ count_same (λ u. has_in t.subscribers.items c.0 u) (λ u. subscribed past u c) (holds.subscribers c) (users past)
+
+  pub group-taken : (name : List ℕ) → list_any (λ (g : GroupName). str_eq_ignore_ascii_case name g.name) t.groups.items ≡ is_taken (groups past) name
+  unfolding is_taken
+  group-taken name = ap (list_any (λ (g : GroupName). str_eq_ignore_ascii_case name g.name)) holds.groups ∙ taken_from 1 (groups past) name
+
+  pub channel-taken : (name : List ℕ) → list_any (str_eq_ignore_ascii_case name) t.channels.items ≡ is_taken (channels past) name
+  unfolding is_taken
+  channel-taken name = ap (list_any (str_eq_ignore_ascii_case name)) holds.channels
+
+  pub users-there : (us : List UserId) → list_all (λ (u : UserId). is_some (numbered u.0 t.names.items)) us ≡ list_all (is_user past) us
+  users-there [] = refl
+  users-there (u ∷ us) = ap (λ b. b && list_all (λ (v : UserId). is_some (numbered v.0 t.names.items)) us) (user-there u) ∙ ap (λ b. is_user past u && b) (users-there us)
+
+  pub some-member : (gs : List GroupId) (u : UserId) → list_any (λ (g : GroupId). has_in t.members.items g.0 u) gs ≡ list_any (λ g. is_member past g u) gs
+  some-member [] u = refl
+  some-member (g ∷ gs) u = ap (λ b. b || list_any (λ (h : GroupId). has_in t.members.items h.0 u) gs) (holds.members g u) ∙ ap (λ b. is_member past g u || b) (some-member gs u)
+
+  pub due-there : (u : UserId) → option_map (λ (w : Waiting). w.ready + 120) (find (is_mail_to u) t.waiting.items) ≡ due past u
+  due-there u =
+      ap (λ ws. option_map (λ (w : Waiting). w.ready + 120) (find (is_mail_to u) ws)) holds.waiting
+      ∙ (ap (option_map (λ (w : Waiting). w.ready + 120)) (find-map (is_mail_to u) notice_kept (waiting past)) ∙ (map-map (λ (w : Waiting). w.ready + 120) notice_kept (find (is_mail_of u) (waiting past)) ∙ sym (due-waiting past u)))
+
+  pub counts-there : counted (length t.waiting.items) (length t.outbox.items) ≡ counts_of past
+  counts-there =
+      ap (λ ws. counted (length ws) (length t.outbox.items)) holds.waiting
+      ∙ (ap (λ k. counted k (length t.outbox.items)) (length-map (waiting past) notice_kept)
+      ∙ (ap (λ es. counted (length (waiting past)) (length es)) holds.outbox ∙ sym (counts_of-waiting past)))
+
+  -- ---- how many there are
+
+  pub names_long : length t.names.items ≡ length (people past)
+  names_long = ap length holds.names ∙ long 1 (people past)
+    where
+      long : (n : ℕ) (ps : List Person) → length (named_from n ps) ≡ length ps
+      long n [] = refl
+      long n (p ∷ ps) = ap suc (long (n + 1) ps)
+
+  pub groups_long : length t.groups.items ≡ length (groups past)
+  groups_long = ap length holds.groups ∙ long 1 (groups past)
+    where
+      long : (n : ℕ) (names : List (List ℕ)) → length (named_groups_from n names) ≡ length names
+      long n [] = refl
+      long n (name ∷ names) = ap suc (long (n + 1) names)
+
+  pub messages_long : length t.messages.items ≡ length (messages past)
+  messages_long = ap length holds.messages ∙ length-map (messages past) message_kept
+
+  pub messages_dealt : length t.messages.items ≡ deal_count past
+  messages_dealt = messages_long ∙ sym (deal_count-messages past)
+
+  -- how many mail notices of a user wait
+  pub mails-there : (u : UserId) → length (filter (is_mail_to u) t.waiting.items) ≡ length (batch_rows past u)
+  mails-there u =
+      ap (λ ws. length (filter (is_mail_to u) ws)) holds.waiting
+      ∙ (ap length (filter-map (is_mail_to u) notice_kept (waiting past))
+      ∙ (length-map (filter (is_mail_of u) (waiting past)) notice_kept ∙ ap length (sym (batch_rows-waiting past u))))

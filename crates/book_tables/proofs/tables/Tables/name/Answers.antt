@@ -1,0 +1,15 @@
+use Rattle.std.proofs.Common.{◌≡◌, List, [], sym, ap, ◌∙◌}
+use Rattle.std.specs.Prelude.{Option, Some, None}
+use Rattle.std.specs.Option.{option_map_or}
+use Rattle.chat_model.specs.declared.mentions.UserName.{UserName}
+use Rattle.notice_ledger.specs.Past.Values.{numbered}
+use Rattle.book_tables.proofs.Standing.{name-there}
+use Rattle.book_tables.proofs.tables.Tables.name.Goals as goal
+
+pub returns-in-Some : goal.returns-in-Some
+returns-in-Some c = λ past h.
+    c.as_str.ensures ∙ (ap (λ (o : Option UserName). option_map_or (λ n. n.name) o []) (c.in-Some.ensures ∙ ap (numbered c.args.user.0) c.deref.ensures.value) ∙ name-there c.args.self.now past h c.args.user)
+
+pub returns-in-None : goal.returns-in-None
+returns-in-None c = λ past h.
+    ap (λ (o : Option UserName). option_map_or (λ n. n.name) o []) (c.in-None.ensures ∙ ap (numbered c.args.user.0) c.deref.ensures.value) ∙ name-there c.args.self.now past h c.args.user

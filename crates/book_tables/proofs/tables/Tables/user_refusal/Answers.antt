@@ -1,0 +1,10 @@
+use Rattle.notice_ledger.specs.Past.Refusals.{refusal}
+use Rattle.book_tables.proofs.tables.Tables.user_refusal.Goals as goal
+
+pub returns : goal.returns
+unfolding refusal
+returns c = λ past bot.
+    let e0 = c.is_longer_than.ensures in
+    let e1 = c.is_bad_name.ensures in
+    let first = c.first_broken.ensures in
+    cc

@@ -1,0 +1,93 @@
+-- What an effect leaves in the tables.
+use Rattle.std.specs.Prelude.{◌≡◌, ℕ, ◌+◌, ◌-◌, ◌^◌, Bool, not, List, [], ◌∷◌, ◌++◌, filter, map, min}
+use Rattle.chat_model.specs.declared.entry.Entry.{Entry}
+use Rattle.chat_model.specs.declared.ids.UserId.{UserId}
+use Rattle.chat_model.specs.declared.mentions.UserName.{UserName}
+use Rattle.chat_model.specs.declared.mentions.GroupName.{GroupName}
+use Rattle.book_tables.specs.declared.tables.Message.{Message}
+use Rattle.book_tables.specs.declared.tables.Waiting.{Waiting}
+use Rattle.book_tables.specs.declared.tables.Tables.{Tables}
+use Rattle.book_tables.specs.declared.prepared.Effect.{Effect}
+use Rattle.book_tables.specs.declared.prepared.Effect.TheVariants as effect
+use Rattle.book_tables.specs.UserSets.{users_in, users_after, changed_numbered}
+use Rattle.book_tables.specs.Tables.{is_mail_to}
+
+-- the number of starts after an effect
+abbrev pub starts_after : Effect → ℕ → ℕ
+starts_after effect.Start starts = min (starts + 1) (2 ^ 64 - 1)
+starts_after _ starts = starts
+
+-- the named users after an effect
+abbrev pub names_after : Effect → List UserName → List UserName
+names_after (effect.User user bot) names = names ++ user ∷ []
+names_after _ names = names
+
+-- which users are bots after an effect
+abbrev pub bots_after : Effect → List Bool → List Bool
+bots_after (effect.User user bot) bots = bots ++ bot ∷ []
+bots_after _ bots = bots
+
+-- the groups after an effect
+abbrev pub groups_after : Effect → List GroupName → List GroupName
+groups_after (effect.Group group members) groups = groups ++ group ∷ []
+groups_after _ groups = groups
+
+-- the members of the groups after an effect
+abbrev pub members_after : Effect → List (List UserId) → List (List UserId)
+members_after (effect.Group group members) all = all ++ users_in members ∷ []
+members_after (effect.Membership group user on) all = changed_numbered group.0 (users_after user on) all
+members_after _ all = all
+
+-- the names of the channels after an effect
+abbrev pub channels_after : Effect → List (List ℕ) → List (List ℕ)
+channels_after (effect.Channel name) channels = channels ++ name ∷ []
+channels_after _ channels = channels
+
+-- the subscribers of the channels after an effect
+abbrev pub subscribers_after : Effect → List (List UserId) → List (List UserId)
+subscribers_after (effect.Channel name) all = all ++ [] ∷ []
+subscribers_after (effect.Subscription channel user on) all = changed_numbered channel.0 (users_after user on) all
+subscribers_after _ all = all
+
+-- the messages after an effect
+abbrev pub messages_after : Effect → List Message → List Message
+messages_after (effect.Message message waiting) messages = messages ++ message ∷ []
+messages_after _ messages = messages
+
+-- the notices that wait after an effect
+abbrev pub waiting_after : Effect → List Waiting → List Waiting
+waiting_after (effect.Message message new) waiting = waiting ++ new.items
+waiting_after (effect.Mailed user entries) waiting = filter (λ w. not (is_mail_to user w)) waiting
+waiting_after _ waiting = waiting
+
+-- the outbox after an effect
+abbrev pub outbox_after : Effect → List Entry → List Entry
+outbox_after (effect.Mailed user entries) outbox = outbox ++ entries.items
+outbox_after _ outbox = outbox
+
+-- the tables after an effect, the last stamp aside
+pub record IsApplied (old new : Tables) (e : Effect) : Type 0 where
+  pub starts : new.starts ≡ starts_after e old.starts
+  pub names : new.names.items ≡ names_after e old.names.items
+  pub bots : new.bots.items ≡ bots_after e old.bots.items
+  pub groups : new.groups.items ≡ groups_after e old.groups.items
+  pub members : map users_in new.members.items ≡ members_after e (map users_in old.members.items)
+  pub channels : new.channels.items ≡ channels_after e old.channels.items
+  pub subscribers : map users_in new.subscribers.items ≡ subscribers_after e (map users_in old.subscribers.items)
+  pub messages : new.messages.items ≡ messages_after e old.messages.items
+  pub waiting : new.waiting.items ≡ waiting_after e old.waiting.items
+  pub outbox : new.outbox.items ≡ outbox_after e old.outbox.items
+
+-- the tables hold the same
+pub record HoldTheSame (old new : Tables) : Type 0 where
+  pub last : new.last ≡ old.last
+  pub starts : new.starts ≡ old.starts
+  pub names : new.names.items ≡ old.names.items
+  pub bots : new.bots.items ≡ old.bots.items
+  pub groups : new.groups.items ≡ old.groups.items
+  pub members : map users_in new.members.items ≡ map users_in old.members.items
+  pub channels : new.channels.items ≡ old.channels.items
+  pub subscribers : map users_in new.subscribers.items ≡ map users_in old.subscribers.items
+  pub messages : new.messages.items ≡ old.messages.items
+  pub waiting : new.waiting.items ≡ old.waiting.items
+  pub outbox : new.outbox.items ≡ old.outbox.items

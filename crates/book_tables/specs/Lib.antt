@@ -1,0 +1,9 @@
+pub mod UserSets
+pub mod Tables
+pub mod Rules
+pub mod Soonest
+pub mod Applied
+pub mod Rooms
+pub mod Changes
+pub mod Prepared
+pub mod Answers

@@ -1,0 +1,83 @@
+-- What is prepared for an event: the changes of the rows, and the effect on the tables.
+use Rattle.std.specs.Prelude.{◌≡◌, ◌+◌, ℕ, true, List, ◌∷◌, length, map}
+use Rattle.chat_model.specs.declared.event.Stamped.{Stamped}
+use Rattle.chat_model.specs.declared.event.Event.{Event}
+use Rattle.chat_model.specs.declared.event.Event.TheVariants.{Restart, Asked, MailTurn}
+use Rattle.chat_model.specs.declared.request.Request.TheVariants.{AddUser, AddGroup, Member, AddChannel, Subscribe, Send}
+use Rattle.chat_model.specs.declared.ids.UserId.{UserId}
+use Rattle.chat_model.specs.declared.mentions.GroupName.{GroupName}
+use Rattle.chat_model.specs.declared.row.Row.{Row}
+use Rattle.chat_model.specs.declared.row.Row.TheVariants as row
+use Rattle.chat_model.specs.declared.row.RowKey.{RowKey}
+use Rattle.chat_model.specs.declared.row.RowKey.TheVariants as key
+use Rattle.chat_model.specs.declared.row.RowChange.{RowChange}
+use Rattle.chat_model.specs.declared.row.Stage.TheVariants.{Ready}
+use Rattle.chat_model.specs.declared.entry.Entry.{Entry}
+use Rattle.notice_ledger.specs.Past.Journal.{occurrence}
+use Rattle.notice_ledger.specs.Past.Values.{people, groups}
+use Rattle.notice_ledger.specs.Past.Owed.{owed_by}
+use Rattle.notice_ledger.specs.Past.Outbox.{mail_entries}
+use Rattle.notice_ledger.specs.Lawful.{lawful, is_lawful_after}
+use Rattle.book_tables.specs.declared.tables.Message.{Message}
+use Rattle.book_tables.specs.declared.tables.Waiting.{Waiting}
+use Rattle.book_tables.specs.declared.tables.Tables.{Tables}
+use Rattle.book_tables.specs.declared.prepared.Effect.{Effect}
+use Rattle.book_tables.specs.declared.prepared.Effect.TheVariants as effect
+use Rattle.book_tables.specs.declared.prepared.Prepared.{Prepared}
+use Rattle.book_tables.specs.UserSets.{users_in}
+use Rattle.book_tables.specs.Tables.{StandsFor, notice_kept, send_of}
+use Rattle.book_tables.specs.Changes.{changes}
+
+-- the row of a notice that waits
+abbrev pub notice_row : Waiting → Row
+notice_row w = row.Pending w.user w.message w.way w.trigger w.deal Ready
+
+-- the key of a notice's row
+abbrev pub key_of_notice : Waiting → RowKey
+key_of_notice w = key.Pending w.user w.message w.way
+
+-- the effect adds this group with these members
+abbrev pub IsGroup : Effect → GroupName → List UserId → Type 0
+IsGroup (effect.Group group members) g us = (group ≡ g) × (users_in members ≡ us)
+IsGroup _ g us = ⊥
+
+-- the effect adds this message with these notices
+abbrev pub IsMessage : Effect → Message → List Waiting → Type 0
+IsMessage (effect.Message message waiting) m ws = (message ≡ m) × (waiting.items ≡ ws)
+IsMessage _ m ws = ⊥
+
+-- the effect hands these entries to the user
+abbrev pub IsMailed : Effect → UserId → List Entry → Type 0
+IsMailed (effect.Mailed user entries) u es = (user ≡ u) × (entries.items ≡ es)
+IsMailed _ u es = ⊥
+
+-- the effect is that of an event at a stamp, behind these
+abbrev pub IsEffectOf : List Stamped → ℕ → Event → Effect → Type 0
+IsEffectOf past at Restart e = e ≡ effect.Start
+IsEffectOf past at (Asked (AddUser name bot)) e = e ≡ effect.User (record { id = record { 0 = length (people past) + 1 }; name = name }) bot
+IsEffectOf past at (Asked (AddGroup name members)) e = IsGroup e (record { id = record { 0 = length (groups past) + 1 }; name = name }) members
+IsEffectOf past at (Asked (Member group user on)) e = e ≡ effect.Membership group user on
+IsEffectOf past at (Asked (AddChannel name)) e = e ≡ effect.Channel name
+IsEffectOf past at (Asked (Subscribe user channel on)) e = e ≡ effect.Subscription channel user on
+IsEffectOf past at (Asked (Send sender channel topic text)) e =
+    let m : Message = record { sender = sender; channel = channel; topic = topic; text = text } in
+    IsMessage e m (map notice_kept (owed_by (occurrence past (send_of at m))))
+IsEffectOf past at (MailTurn user) e = IsMailed e user (mail_entries past at user)
+
+-- it was prepared for this event behind these, which all count
+pub record Follows (past : List Stamped) (s : Stamped) (p : Prepared) : Type 0 where
+  pub at : p.at ≡ s.at
+  pub changes : p.changes.items ≡ changes past s
+  pub effect : IsEffectOf past s.at s.event p.effect
+
+-- it was prepared for this event after this journal
+abbrev pub IsPreparedFor : List Stamped → Stamped → Prepared → Type 0
+IsPreparedFor j s p = Follows (lawful j) s p
+
+-- the event may stand next, after a journal for which the tables stand
+abbrev pub MayFollow : Tables → Stamped → Type 0
+MayFollow t s = (j : List Stamped) × (StandsFor t j) × (is_lawful_after j s ≡ true)
+
+-- the changes of the rows that were prepared
+abbrev pub changes_of : Prepared → List RowChange
+changes_of p = p.changes.items

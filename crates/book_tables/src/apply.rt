@@ -1,0 +1,125 @@
+//! How an effect is made in the tables: first the room for it, then the effect, which cannot fail.
+ghost use Rattle.std.specs.Prelude.{◌≡◌, true, List, ◌∷◌, [], ◌++◌, OnOk};
+ghost use Rattle.chat_model.specs.declared.event.Stamped.{Stamped};
+ghost use Rattle.notice_ledger.specs.Lawful.{is_lawful_after};
+ghost use Rattle.book_tables.specs.Applied.{IsApplied, HoldTheSame};
+ghost use Rattle.book_tables.specs.Rooms.{HasRoom, HasRoomFor};
+ghost use Rattle.book_tables.specs.Prepared.{IsPreparedFor};
+
+use crate::prepared::{Effect, Prepared};
+use crate::sets::{change_set, reserve_in_set};
+use crate::tables::Tables;
+use crate::user_set::UserSet;
+use chat_model::OutOfMemory;
+
+impl Tables {
+    ghost use Rattle.book_tables.specs.Tables.{StandsFor};
+
+    /// Makes room for the effect.
+    fn make_room(&mut self, effect: &Effect) -> Result<(), OutOfMemory>
+        ensures same { HoldTheSame self.old self.new }
+        ensures ok { OnOk result (HasRoom self.new effect.now) }
+    {
+        match effect {
+            Effect::Start => Ok(()),
+            Effect::User { .. } => {
+                self.names.reserve(1)?;
+                self.bots.reserve(1)?;
+                Ok(())
+            }
+            Effect::Group { .. } => {
+                self.groups.reserve(1)?;
+                self.members.reserve(1)?;
+                Ok(())
+            }
+            Effect::Membership { group, on, .. } => {
+                reserve_in_set(&mut self.members, group.0, *on)
+            }
+            Effect::Channel { .. } => {
+                self.channels.reserve(1)?;
+                self.subscribers.reserve(1)?;
+                Ok(())
+            }
+            Effect::Subscription { channel, on, .. } => {
+                reserve_in_set(&mut self.subscribers, channel.0, *on)
+            }
+            Effect::Message { waiting, .. } => {
+                self.messages.reserve(1)?;
+                self.waiting.reserve(waiting.len())?;
+                Ok(())
+            }
+            Effect::Mailed { entries, .. } => {
+                self.outbox.reserve(entries.len())?;
+                Ok(())
+            }
+        }
+    }
+
+    /// Makes the effect.
+    fn make(&mut self, effect: Effect)
+        requires { HasRoom self.old effect }
+        ensures { IsApplied self.old self.new effect }
+    {
+        match effect {
+            Effect::Start => {
+                self.starts = self.starts.saturating_add(1);
+                return;
+            }
+            Effect::User { user, bot } => {
+                self.names.push_reserved(user);
+                self.bots.push_reserved(bot);
+                return;
+            }
+            Effect::Group { group, members } => {
+                self.groups.push_reserved(group);
+                self.members.push_reserved(members);
+                return;
+            }
+            Effect::Membership { group, user, on } => {
+                change_set(&mut self.members, group.0, user, on);
+                return;
+            }
+            Effect::Channel { name } => {
+                let nobody = UserSet::new(self.alloc);
+                self.channels.push_reserved(name);
+                self.subscribers.push_reserved(nobody);
+                return;
+            }
+            Effect::Subscription { channel, user, on } => {
+                change_set(&mut self.subscribers, channel.0, user, on);
+                return;
+            }
+            Effect::Message {
+                message,
+                mut waiting,
+            } => {
+                self.messages.push_reserved(message);
+                self.waiting.append(&mut waiting).unwrap();
+                return;
+            }
+            Effect::Mailed { user, mut entries } => {
+                self.waiting.retain(|notice| !notice.is_mail_to(user));
+                self.outbox.append(&mut entries).unwrap();
+                return;
+            }
+        }
+    }
+
+    /// Makes room for what was prepared. The contents stay.
+    pub fn reserve(&mut self, prepared: &Prepared) -> Result<(), OutOfMemory>
+        ensures same { (j : List Stamped) → StandsFor self.old j → StandsFor self.new j }
+        ensures ok { OnOk result (HasRoomFor self.new prepared.now) }
+    {
+        self.make_room(&prepared.effect)
+    }
+
+    /// Makes what was prepared for a lawful event. There is room for it, and it takes no memory.
+    pub fn apply(&mut self, prepared: Prepared)
+        requires { HasRoomFor self.old prepared }
+        ensures { (j : List Stamped) (event : Stamped) → StandsFor self.old j → is_lawful_after j event ≡ true → IsPreparedFor j event prepared → StandsFor self.new (j ++ event ∷ []) }
+    {
+        let Prepared { at, effect, .. } = prepared;
+        self.make(effect);
+        self.last = at;
+    }
+}

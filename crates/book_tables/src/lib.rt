@@ -1,0 +1,22 @@
+//! The tables that follow from the journal: what a look-up reads in them, and how an event changes them.
+//!
+//! The tables stand for a list of events where they hold what its lawful events leave. What each call answers is said
+//! for every list of events for which they stand, by the definitions of `notice_ledger`. An event is first prepared,
+//! which may want memory and changes nothing; then room is reserved, which may want memory and changes no contents;
+//! then it is applied, which cannot fail.
+#![tactic(auto)]
+
+mod apply;
+mod audit;
+mod due;
+mod entries;
+mod lawful;
+mod notices;
+mod prepared;
+mod refusal;
+mod sets;
+mod tables;
+mod user_set;
+
+pub use prepared::Prepared;
+pub use tables::{DueUser, Tables};

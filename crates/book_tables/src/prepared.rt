@@ -1,0 +1,279 @@
+//! What an event will change, made ready before it is committed.
+ghost use Rattle.std.specs.Prelude.{◌≡◌, ◌+◌, ◌^◌, ◌<◌, ◌++◌, ◌∷◌, [], true, List as Items, map, filter, length, IfOk, OnOk};
+ghost use Rattle.chat_model.specs.declared.event.Stamped.{Stamped};
+ghost use Rattle.chat_model.specs.declared.row.RowChange.TheVariants.{Put, Remove};
+ghost use Rattle.chat_model.specs.Rows.{changed_all};
+ghost use Rattle.notice_ledger.specs.InOrder.{is_ascending, is_in_order};
+ghost use Rattle.notice_ledger.specs.Lawful.{is_lawful_after};
+ghost use Rattle.notice_ledger.specs.Rows.{rows};
+ghost use Rattle.notice_ledger.specs.Past.Rows.{outbox_rows_from};
+ghost use Rattle.book_tables.specs.Tables.{is_mail_to};
+ghost use Rattle.book_tables.specs.Prepared.{notice_row, key_of_notice, changes_of};
+
+use crate::tables::{Message, Tables, Waiting};
+use crate::user_set::UserSet;
+use chat_model::{
+    ChannelId, Entry, EntryNo, Event, GroupId, GroupName, List, MessageId, Moment, OutOfMemory,
+    Request, Row, RowChange, RowKey, Settings, Stage, Stamped, Text, UserId, UserName,
+};
+use std::alloc::Global;
+
+/// What an event will change: the kept rows, and the tables.
+#[derive(Debug, Drop)]
+pub struct Prepared {
+    pub(crate) at: Moment,
+    pub(crate) changes: Vec<RowChange>,
+    pub(crate) effect: Effect,
+}
+
+/// What an event does to the tables.
+#[derive(Debug, Drop)]
+pub enum Effect {
+    Start,
+    User {
+        user: UserName,
+        bot: bool,
+    },
+    Group {
+        group: GroupName,
+        members: UserSet,
+    },
+    Membership {
+        group: GroupId,
+        user: UserId,
+        on: bool,
+    },
+    Channel {
+        name: Text,
+    },
+    Subscription {
+        channel: ChannelId,
+        user: UserId,
+        on: bool,
+    },
+    Message {
+        message: Message,
+        waiting: Vec<Waiting>,
+    },
+    Mailed {
+        user: UserId,
+        entries: Vec<Entry>,
+    },
+}
+
+impl Prepared {
+    /// The changes of the kept rows, to be made first to last.
+    pub fn changes(&self) -> &[RowChange]
+        ensures { result.now ≡ changes_of self.now }
+    {
+        &self.changes
+    }
+}
+
+/// Adds the rows of notices that wait.
+fn put_notices(changes: &mut Vec<RowChange>, waiting: &[Waiting]) -> Result<(), OutOfMemory>
+    ensures { OnOk result (changes.new.items ≡ changes.old.items ++ map (λ w. Put (notice_row w)) waiting.now) }
+{
+    for notice in waiting {
+        changes.push(RowChange::Put(Row::Pending {
+            user: notice.user,
+            message: notice.message,
+            way: notice.way,
+            trigger: notice.trigger,
+            deal: notice.deal,
+            stage: Stage::Ready,
+        }))?;
+    }
+    Ok(())
+}
+
+/// Takes the rows of a user's mail notices away.
+fn remove_mails(
+    changes: &mut Vec<RowChange>,
+    waiting: &[Waiting],
+    user: UserId,
+) -> Result<(), OutOfMemory>
+    ensures { OnOk result (changes.new.items ≡ changes.old.items ++ map (λ w. Remove (key_of_notice w)) (filter (is_mail_to user) waiting.now)) }
+{
+    for notice in waiting {
+        if notice.is_mail_to(user) {
+            changes.push(RowChange::Remove(RowKey::Pending(
+                notice.user,
+                notice.message,
+                notice.way,
+            )))?;
+        }
+    }
+    Ok(())
+}
+
+/// Adds the rows of the outbox entries that follow so many others.
+fn put_entries(
+    alloc: Global,
+    changes: &mut Vec<RowChange>,
+    before: usize,
+    entries: &[Entry],
+) -> Result<(), OutOfMemory>
+    requires { before + 1 + length entries.now < 2 ^ 64 }
+    ensures { OnOk result (changes.new.items ≡ changes.old.items ++ map Put (outbox_rows_from (before + 1) entries.now)) }
+{
+    for (i, entry) in entries.iter().enumerate() {
+        changes.push(RowChange::Put(Row::Outbox {
+            number: EntryNo((before + 1 + i) as u64),
+            entry: entry.copy(alloc)?,
+            spooled: false,
+        }))?;
+    }
+    Ok(())
+}
+
+impl Tables {
+    ghost use Rattle.chat_model.specs.declared.event.Event.TheVariants.{Asked, MailTurn};
+    ghost use Rattle.chat_model.specs.declared.request.Request.TheVariants.{AddUser, AddGroup, Send};
+    ghost use Rattle.book_tables.specs.Tables.{Holds, StandsFor, send_of};
+    ghost use Rattle.book_tables.specs.Prepared.{Follows, IsPreparedFor, MayFollow};
+
+    fn prepare_user(&self, at: Moment, name: &Text, bot: bool) -> Result<Prepared, OutOfMemory>
+        ensures { IfOk result (λ p. (past : Items Stamped) → Holds self.now past → Follows past (record { at = at; event = Asked (AddUser name.now bot) }) p) }
+    {
+        let id = UserId(self.names.len() as u64 + 1);
+        let mut changes = Vec::new(self.alloc);
+        changes.push(RowChange::Put(Row::User {
+            id,
+            name: name.copy()?,
+            bot,
+            settings: Settings::default(),
+        }))?;
+        let user = UserName {
+            id,
+            name: name.copy()?,
+        };
+        Ok(Prepared {
+            at,
+            changes,
+            effect: Effect::User { user, bot },
+        })
+    }
+
+    fn prepare_group(
+        &self,
+        at: Moment,
+        name: &Text,
+        members: &List<UserId>,
+    ) -> Result<Prepared, OutOfMemory>
+        requires { is_ascending members.now ≡ true }
+        ensures { IfOk result (λ p. (past : Items Stamped) → Holds self.now past → Follows past (record { at = at; event = Asked (AddGroup name.now members.now) }) p) }
+    {
+        let group = GroupName {
+            id: GroupId(self.groups.len() as u64 + 1),
+            name: name.copy()?,
+        };
+        let members = UserSet::from_ascending(members.copy()?);
+        Ok(Prepared {
+            at,
+            changes: Vec::new(self.alloc),
+            effect: Effect::Group { group, members },
+        })
+    }
+
+    fn prepare_send(&self, at: Moment, message: Message) -> Result<Prepared, OutOfMemory>
+        ensures { IfOk result (λ p. (past : Items Stamped) → Holds self.now past → Follows past (send_of at message) p) }
+    {
+        let waiting = self.owed(at, &message)?;
+        let mut changes = Vec::new(self.alloc);
+        changes.push(RowChange::Put(Row::Message {
+            id: MessageId(self.messages.len() as u64 + 1),
+            sender: message.sender,
+            text: message.text.copy()?,
+            deleted: false,
+        }))?;
+        put_notices(&mut changes, &waiting)?;
+        Ok(Prepared {
+            at,
+            changes,
+            effect: Effect::Message { message, waiting },
+        })
+    }
+
+    fn prepare_mails(&self, at: Moment, user: UserId) -> Result<Prepared, OutOfMemory>
+        ensures { IfOk result (λ p. (past : Items Stamped) → Holds self.now past → Follows past (record { at = at; event = MailTurn user }) p) }
+    {
+        let entries = self.mail_entries(at, user)?;
+        let mut changes = Vec::new(self.alloc);
+        remove_mails(&mut changes, &self.waiting, user)?;
+        put_entries(self.alloc, &mut changes, self.outbox.len(), &entries)?;
+        Ok(Prepared {
+            at,
+            changes,
+            effect: Effect::Mailed { user, entries },
+        })
+    }
+
+    /// An effect that changes no row.
+    fn without_rows(&self, at: Moment, effect: Effect) -> Prepared
+        ensures { (result.at ≡ at) × (result.changes.items ≡ []) × (result.effect ≡ effect) }
+    {
+        Prepared {
+            at,
+            changes: Vec::new(self.alloc),
+            effect,
+        }
+    }
+
+    fn prepare_asked(&self, at: Moment, request: &Request) -> Result<Prepared, OutOfMemory>
+        requires { is_in_order request.now ≡ true }
+        ensures { IfOk result (λ p. (past : Items Stamped) → Holds self.now past → Follows past (record { at = at; event = Asked request.now }) p) }
+    {
+        match request {
+            Request::AddUser { name, bot } => self.prepare_user(at, name, *bot),
+            Request::AddGroup { name, members } => self.prepare_group(at, name, members),
+            Request::Member { group, user, on } => {
+                let effect = Effect::Membership {
+                    group: *group,
+                    user: *user,
+                    on: *on,
+                };
+                Ok(self.without_rows(at, effect))
+            }
+            Request::AddChannel { name } => {
+                let name = name.copy()?;
+                Ok(self.without_rows(at, Effect::Channel { name }))
+            }
+            Request::Subscribe { user, channel, on } => {
+                let effect = Effect::Subscription {
+                    channel: *channel,
+                    user: *user,
+                    on: *on,
+                };
+                Ok(self.without_rows(at, effect))
+            }
+            Request::Send {
+                sender,
+                channel,
+                topic,
+                text,
+            } => {
+                let message = Message {
+                    sender: *sender,
+                    channel: *channel,
+                    topic: topic.copy()?,
+                    text: text.copy()?,
+                };
+                self.prepare_send(at, message)
+            }
+        }
+    }
+
+    /// What the event, which is lawful, will change. It changes nothing yet.
+    pub fn prepare(&self, event: &Stamped) -> Result<Prepared, OutOfMemory>
+        requires { MayFollow self.now event.now }
+        ensures prepared { IfOk result (λ p. (j : Items Stamped) → StandsFor self.now j → IsPreparedFor j event.now p) }
+        ensures changes { IfOk result (λ p. (j : Items Stamped) → StandsFor self.now j → is_lawful_after j event.now ≡ true → changed_all (changes_of p) (rows j) ≡ rows (j ++ event.now ∷ [])) }
+    {
+        match &event.event {
+            Event::Restart => Ok(self.without_rows(event.at, Effect::Start)),
+            Event::Asked(request) => self.prepare_asked(event.at, request),
+            Event::MailTurn(user) => self.prepare_mails(event.at, *user),
+        }
+    }
+}

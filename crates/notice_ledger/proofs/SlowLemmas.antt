@@ -1,0 +1,80 @@
+-- What the slow computation counts is what the definitions count.
+use Rattle.std.proofs.Common.{◌≡◌, ℕ, ◌+◌, ◌-◌, ◌^◌, min, Bool, true, false, List, [], ◌∷◌, length, map, refl, sym, ap, ◌∙◌, arith}
+use Rattle.std.specs.Prelude.{Option, Some, None, option_map, find, count_by, if◌then◌else◌, cond}
+use Rattle.std.specs.Option.{option_map_or}
+use Rattle.std.proofs.lemmas.List.{length-map}
+use Rattle.chat_model.specs.declared.event.Stamped.{Stamped}
+use Rattle.chat_model.specs.declared.ids.UserId.{UserId}
+use Rattle.chat_model.specs.declared.ids.MessageId.{MessageId}
+use Rattle.chat_model.specs.declared.trigger.Way.{Way}
+use Rattle.chat_model.specs.declared.row.Cause.TheVariants.{Read, Deleted, SwitchedOff}
+use Rattle.chat_model.specs.declared.trigger.Way.TheVariants.{Mail}
+use Rattle.notice_ledger.specs.declared.accounts.Account.{Account}
+use Rattle.notice_ledger.specs.declared.accounts.Account.TheVariants.{NotOwed, Flight, Held, Ready, Handed, Cancelled, LiveQueue}
+use Rattle.notice_ledger.specs.declared.owed.Owed.{Owed}
+use Rattle.notice_ledger.specs.Past.Owed.{is_of, notices, switch_on, waiting, account}
+use Rattle.notice_ledger.specs.Past.Due.{batch_rows}
+use Rattle.notice_ledger.specs.Past.Outbox.{by_message, mail_entry, mail_entries, outbox}
+use Rattle.notice_ledger.specs.Past.Audit.{same_account, owed_with, in_64_bits, counts_of}
+use Rattle.notice_ledger.specs.Plain.{owed_kept, account_kept, counts_kept, is_of_kept}
+use Rattle.notice_ledger.proofs.Sums.{sum_by-map}
+use Rattle.notice_ledger.proofs.Batches.{batch_rows-waiting, by_message-batch_rows}
+
+-- a mail turn with the switch on adds an entry for each batch row
+pub turn_entries-on : (j : List Stamped) (at : ℕ) (u : UserId) (rows : List Owed) → switch_on j u Mail ≡ true → rows ≡ map owed_kept (batch_rows j u) → length rows ≡ length (mail_entries j at u)
+turn_entries-on j at u rows on are =
+    ap length are
+    ∙ (length-map (batch_rows j u) owed_kept
+    ∙ (ap length (batch_rows-waiting j u ∙ sym (by_message-batch_rows j u))
+    ∙ (sym (length-map (by_message (batch_rows j u)) (mail_entry j at))
+    ∙ ap (λ b. length (if b then map (mail_entry j at) (by_message (batch_rows j u)) else [])) (sym on))))
+
+pub turn_entries-off : (j : List Stamped) (at : ℕ) (u : UserId) → switch_on j u Mail ≡ false → 0 ≡ length (mail_entries j at u)
+turn_entries-off j at u off = ap (λ b. length (if b then map (mail_entry j at) (by_message (batch_rows j u)) else [])) (sym off)
+
+-- counts in 64 bits are added in 64 bits
+pub in_64_bits-more : (r n m a b : ℕ) → r ≡ min (n + m) (2 ^ 64 - 1) → m ≡ b → n ≡ in_64_bits a → r ≡ in_64_bits (a + b)
+in_64_bits-more r n m a b added more so_far = omega arith
+
+counted : (j : List Stamped) (account : Account) (accounts : List Account) → accounts ≡ map (account_kept j) (map owed_kept (notices j)) → count_by (λ a. same_account a account) accounts ≡ owed_with j account
+unfolding owed_with
+counted j account accounts are =
+    ap (count_by (λ a. same_account a account)) are
+    ∙ (sum_by-map (λ a. cond (same_account a account) 1 0) (account_kept j) (map owed_kept (notices j))
+    ∙ sum_by-map (λ n. cond (same_account (account_kept j n) account) 1 0) owed_kept (notices j))
+
+pub counts_kept-counts_of : (j : List Stamped) (accounts : List Account) (entries : ℕ) → accounts ≡ map (account_kept j) (map owed_kept (notices j)) → entries ≡ in_64_bits (length (outbox j)) → counts_kept accounts entries ≡ counts_of j
+counts_kept-counts_of j accounts entries are counts =
+    let of = λ (a : Account). ap in_64_bits (counted j a accounts are) in
+    λ i. record {
+      flight = of Flight i;
+      held = of Held i;
+      ready = of Ready i;
+      handed = of Handed i;
+      read = of (Cancelled Read) i;
+      deleted = of (Cancelled Deleted) i;
+      off = of (Cancelled SwitchedOff) i;
+      live = of LiveQueue i;
+      entries = counts i;
+      waiting = 0;
+      written = 0;
+    }
+
+-- ---- the account of a notice
+
+find-map : {A B : Type 0} (p : B → Bool) (f : A → B) (xs : List A) → find p (map f xs) ≡ option_map f (find (λ x. p (f x)) xs)
+find-map p f [] = refl
+find-map p f (x ∷ xs) =
+    elim (p (f x)) as (λ b. cond b (Some (f x)) (find p (map f xs)) ≡ option_map f (cond b (Some x) (find (λ x. p (f x)) xs))) [
+      | true ↦ refl
+      | false ↦ find-map p f xs
+    ]
+
+or_mapped : {A B C : Type 0} (f : B → C) (g : A → B) (o : Option A) (d : C) → option_map_or f (option_map g o) d ≡ option_map_or (λ a. f (g a)) o d
+or_mapped f g None d = refl
+or_mapped f g (Some x) d = refl
+
+pub account-found : (j : List Stamped) (u : UserId) (m : MessageId) (w : Way) (found : List Owed) (o : Option Owed) → found ≡ map owed_kept (notices j) → o ≡ find (is_of_kept u m w) found → option_map_or (account_kept j) o NotOwed ≡ account j u m w
+account-found j u m w found o are at =
+    ap (λ p. option_map_or (account_kept j) p NotOwed) (at ∙ (ap (find (is_of_kept u m w)) are ∙ find-map (is_of_kept u m w) owed_kept (notices j)))
+    ∙ or_mapped (account_kept j) owed_kept (find (is_of u m w) (notices j)) NotOwed

@@ -1,0 +1,207 @@
+//! The account of a notice and the counts, computed plainly: no table, and the whole list for each question.
+ghost use Rattle.std.specs.Prelude.{◌≡◌, ℕ, map, find, length, count_by, IfOk};
+ghost use Rattle.std.specs.Option.{option_copied};
+ghost use Rattle.notice_ledger.specs.Past.Owed.{same_way};
+ghost use Rattle.notice_ledger.specs.Past.Outbox.{entries_by, mail_entries};
+ghost use Rattle.notice_ledger.specs.Past.Audit.{in_64_bits, same_account, same_cause};
+ghost use Rattle.notice_ledger.specs.Past.Owed as lawful_owed;
+ghost use Rattle.notice_ledger.specs.Past.Outbox as lawful_outbox;
+ghost use Rattle.notice_ledger.specs.Past.Audit as lawful_audit;
+ghost use Rattle.notice_ledger.specs.Owed.{account};
+ghost use Rattle.notice_ledger.specs.Audit.{counts_of};
+ghost use Rattle.notice_ledger.specs.Plain.{account_kept, counts_kept, is_of_kept};
+
+use crate::Account;
+use crate::due::{account_of, batch_rows, is_switch_on};
+use crate::kept::lawful_events;
+use crate::owed::{Owed, notices};
+use chat_model::{Cause, Counts, Event, MessageId, OutOfMemory, Stamped, UserId, Way};
+use std::alloc::Global;
+
+fn is_same_way(way: Way, other: Way) -> bool
+    ensures { result ≡ same_way way other }
+{
+    match (way, other) {
+        (Way::Mail, Way::Mail) => true,
+        (Way::Push, Way::Push) => true,
+        _ => false,
+    }
+}
+
+/// Whether the notice is to the user, of the message, by the way.
+fn is_of(notice: &Owed, user: UserId, message: MessageId, way: Way) -> bool
+    ensures { result ≡ is_of_kept user message way notice.now }
+{
+    notice.user.0 == user.0 && notice.message.0 == message.0 && is_same_way(notice.way, way)
+}
+
+/// The notice of a user, a message and a way.
+fn found(notices: &[Owed], user: UserId, message: MessageId, way: Way) -> Option<&Owed>
+    ensures { option_copied result ≡ find (is_of_kept user message way) notices.now }
+{
+    notices
+        .iter()
+        .find(|notice| is_of(notice, user, message, way))
+}
+
+/// Where a notice stands after events that are all lawful.
+fn lawful_account(
+    alloc: Global,
+    events: &[Stamped],
+    user: UserId,
+    message: MessageId,
+    way: Way,
+) -> Result<Account, OutOfMemory>
+    ensures { IfOk result (λ a. a ≡ lawful_owed.account events.now user message way) }
+{
+    let notices = notices(alloc, events)?;
+    match found(&notices, user, message, way) {
+        Some(notice) => Ok(account_of(events, notice)),
+        None => Ok(Account::NotOwed),
+    }
+}
+
+/// Where the notice of a user, a message and a way stands after any list of events, whose lawful ones alone count. It
+/// goes through the whole list for each of them, and is slow.
+pub fn account(
+    alloc: Global,
+    journal: &[Stamped],
+    user: UserId,
+    message: MessageId,
+    way: Way,
+) -> Result<Account, OutOfMemory>
+    ensures { IfOk result (λ a. a ≡ account journal.now user message way) }
+{
+    let events = lawful_events(alloc, journal)?;
+    lawful_account(alloc, &events, user, message, way)
+}
+
+fn is_same_cause(cause: Cause, other: Cause) -> bool
+    ensures { result ≡ same_cause cause other }
+{
+    match (cause, other) {
+        (Cause::Read, Cause::Read) => true,
+        (Cause::Deleted, Cause::Deleted) => true,
+        (Cause::SwitchedOff, Cause::SwitchedOff) => true,
+        _ => false,
+    }
+}
+
+fn is_same(account: Account, other: Account) -> bool
+    ensures { result ≡ same_account account other }
+{
+    match (account, other) {
+        (Account::NotOwed, Account::NotOwed) => true,
+        (Account::Flight, Account::Flight) => true,
+        (Account::Held, Account::Held) => true,
+        (Account::Ready, Account::Ready) => true,
+        (Account::Handed, Account::Handed) => true,
+        (Account::Cancelled(cause), Account::Cancelled(another)) => is_same_cause(cause, another),
+        (Account::LiveQueue, Account::LiveQueue) => true,
+        _ => false,
+    }
+}
+
+/// Where each of the notices stands.
+fn accounts_of(
+    alloc: Global,
+    events: &[Stamped],
+    notices: &[Owed],
+) -> Result<Vec<Account>, OutOfMemory>
+    ensures { IfOk result (λ accounts. accounts.items ≡ map (account_kept events.now) notices.now) }
+{
+    let mut accounts = Vec::new(alloc);
+    for notice in notices {
+        accounts.push(account_of(events, notice))?;
+    }
+    Ok(accounts)
+}
+
+/// How many of these are this account.
+fn count_among(accounts: &[Account], account: Account) -> usize
+    ensures { result ≡ count_by (λ a. same_account a account) accounts.now }
+{
+    accounts
+        .iter()
+        .filter(|other| is_same(**other, account))
+        .count()
+}
+
+fn count_of(accounts: &[Account], account: Account) -> u64
+    ensures { result ≡ in_64_bits (count_by (λ a. same_account a account) accounts.now) }
+{
+    count_among(accounts, account) as u64
+}
+
+/// How many entries a mail turn of the user adds.
+fn turn_entries(alloc: Global, past: &[Stamped], user: UserId) -> Result<usize, OutOfMemory>
+    ensures { (at : ℕ) → IfOk result (λ n. n ≡ length (mail_entries past.now at user)) }
+{
+    if is_switch_on(past, user, Way::Mail) {
+        let rows = batch_rows(alloc, past, user)?;
+        Ok(rows.len())
+    } else {
+        Ok(0)
+    }
+}
+
+/// How many outbox entries an event behind these adds.
+fn entries_by(alloc: Global, past: &[Stamped], stamped: &Stamped) -> Result<usize, OutOfMemory>
+    ensures { IfOk result (λ n. n ≡ length (entries_by past.now stamped.now.at stamped.now.event)) }
+{
+    match &stamped.event {
+        Event::MailTurn(user) => turn_entries(alloc, past, *user),
+        _ => Ok(0),
+    }
+}
+
+/// How many outbox entries the events add.
+fn entries(alloc: Global, events: &[Stamped]) -> Result<u64, OutOfMemory>
+    ensures { IfOk result (λ n. n ≡ in_64_bits (length (lawful_outbox.outbox events.now))) }
+{
+    let mut count: u64 = 0;
+    for i in 0..events.len() {
+        let more = entries_by(alloc, &events[..i], &events[i])?;
+        count = count.saturating_add(more as u64);
+    }
+    Ok(count)
+}
+
+/// The counts of these accounts, with so many entries.
+fn counts_among(accounts: &[Account], entries: u64) -> Counts
+    ensures { result ≡ counts_kept accounts.now entries }
+{
+    Counts {
+        flight: count_of(accounts, Account::Flight),
+        held: count_of(accounts, Account::Held),
+        ready: count_of(accounts, Account::Ready),
+        handed: count_of(accounts, Account::Handed),
+        read: count_of(accounts, Account::Cancelled(Cause::Read)),
+        deleted: count_of(accounts, Account::Cancelled(Cause::Deleted)),
+        off: count_of(accounts, Account::Cancelled(Cause::SwitchedOff)),
+        live: count_of(accounts, Account::LiveQueue),
+        entries,
+        // No push is revoked yet.
+        waiting: 0,
+        written: 0,
+    }
+}
+
+/// The counts of events that are all lawful.
+fn lawful_counts(alloc: Global, events: &[Stamped]) -> Result<Counts, OutOfMemory>
+    ensures { IfOk result (λ counts. counts ≡ lawful_audit.counts_of events.now) }
+{
+    let notices = notices(alloc, events)?;
+    let accounts = accounts_of(alloc, events, &notices)?;
+    let entries = entries(alloc, events)?;
+    Ok(counts_among(&accounts, entries))
+}
+
+/// How many owed notices stand where, and how many outbox entries there are, after any list of events, whose lawful ones
+/// alone count. It goes through the whole list for each of them, and is slow.
+pub fn audit(alloc: Global, journal: &[Stamped]) -> Result<Counts, OutOfMemory>
+    ensures { IfOk result (λ counts. counts ≡ counts_of journal.now) }
+{
+    let events = lawful_events(alloc, journal)?;
+    lawful_counts(alloc, &events)
+}
