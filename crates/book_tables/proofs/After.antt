@@ -21,6 +21,8 @@ use Rattle.chat_model.specs.declared.trigger.Way.TheVariants.{Mail, Push}
 use Rattle.notice_ledger.specs.Past.Journal.{occurrence}
 use Rattle.notice_ledger.specs.Past.Values.{numbered, Person, person_of, people, named_from, user_names, is_one_of, group_of, groups, named_groups_from, group_names, is_group, membership_change, is_member, channel_of, channels, is_user, is_channel, SentMessage, message_of, messages, subscription_change, subscribed}
 use Rattle.notice_ledger.specs.Past.Owed.{Notice, waiting, owed_by, is_mail_turn_of, is_turn_of}
+use Rattle.notice_ledger.specs.Past.Deals.{deal_of, deal_made, deals}
+use Rattle.notice_ledger.specs.Past.Runs.{is_restart, start_count}
 use Rattle.notice_ledger.specs.Past.Outbox.{outbox, entries_by, mail_entries}
 use Rattle.notice_ledger.specs.Past.Audit.{in_64_bits}
 use Rattle.notice_ledger.specs.Past.Refusals.{Rule, rule, first_broken, name_rules, rules_of, refusal, is_taken}
@@ -32,12 +34,13 @@ use Rattle.notice_ledger.proofs.Lists.{filter_all}
 use Rattle.notice_ledger.proofs.Appended.{people-nil, people-append, groups-nil, groups-append, is_member-nil, is_member-append, channels-nil, channels-append, messages-nil, messages-append, subscribed-nil, subscribed-append, outbox-nil, outbox-append, last_stamp-append}
 use Rattle.notice_ledger.proofs.Waiting.{is_turn, waiting-nil, waiting-append}
 use Rattle.notice_ledger.proofs.Batches.{is_mail_of, filter_same}
+use Rattle.notice_ledger.proofs.DealLemmas.{deals-nil, deals-append, start_count-nil, start_count-append}
 use Rattle.book_tables.specs.declared.user_set.UserSet.{UserSet}
 use Rattle.book_tables.specs.declared.tables.Tables.{Tables}
 use Rattle.book_tables.specs.declared.prepared.Effect.{Effect}
 use Rattle.book_tables.specs.declared.prepared.Effect.TheVariants as effect
 use Rattle.book_tables.specs.UserSets.{users_in, has_in, users_after, changed_at, changed_numbered, IsSet, AreUserSets}
-use Rattle.book_tables.specs.Tables.{Holds, message_kept, notice_kept, is_mail_to, is_restart, start_count}
+use Rattle.book_tables.specs.Tables.{Holds, message_kept, notice_kept, is_mail_to}
 use Rattle.book_tables.specs.Prepared.{IsEffectOf, IsGroup, IsMessage, IsMailed}
 use Rattle.book_tables.specs.Applied.{IsApplied, HoldTheSame}
 use Rattle.book_tables.proofs.Standing.{filter-map}
@@ -112,12 +115,9 @@ same_stands old new j stands same = record {
   channels = same.channels ∙ stands.channels;
   messages = same.messages ∙ stands.messages;
   waiting = same.waiting ∙ stands.waiting;
+  deals = same.deals ∙ stands.deals;
   outbox = same.outbox ∙ stands.outbox;
 }
-
-start_count-append : (j : List Stamped) (s : Stamped) → start_count (j ++ s ∷ []) ≡ start_count j + cond (is_restart s.event) 1 0
-unfolding start_count
-start_count-append j s = sum_by-append (λ t. cond (is_restart t.event) 1 0) j (s ∷ []) ∙ ap (λ n. count_by (λ t. is_restart t.event) j + n) (zero-add (cond (is_restart s.event) 1 0))
 
 module _ (old new : Tables) (j : List Stamped) (stands : Holds old j) where
   starts_left : (s : Stamped) → is_restart s.event ≡ false → new.starts ≡ old.starts → new.starts ≡ in_64_bits (start_count (j ++ s ∷ []))
@@ -213,6 +213,9 @@ module _ (old new : Tables) (j : List Stamped) (stands : Holds old j) where
   waiting_left : (s : Stamped) → ((u : UserId) → is_mail_turn_of u s.event ≡ false) → owed_by (occurrence j s) ≡ [] → new.waiting.items ≡ old.waiting.items → new.waiting.items ≡ map notice_kept (waiting (j ++ s ∷ []))
   waiting_left s never none same = same ∙ (stands.waiting ∙ ap (map notice_kept) (sym (same_waiting s never none)))
 
+  deals_left : (s : Stamped) → deal_made (occurrence j s) ≡ None → new.deals.items ≡ old.deals.items → new.deals.items ≡ deals (j ++ s ∷ [])
+  deals_left s none same = same ∙ (stands.deals ∙ sym (deals-append j s ∙ (ap (λ o. deals j ++ option_to_list o) none ∙ append-nil (deals j))))
+
   same_outbox : (s : Stamped) → entries_by j s.at s.event ≡ [] → outbox (j ++ s ∷ []) ≡ outbox j
   same_outbox s none = outbox-append j s ∙ (ap (λ es. outbox j ++ es) none ∙ append-nil (outbox j))
 
@@ -237,6 +240,7 @@ module _ (old new : Tables) (j : List Stamped) (stands : Holds old j) where
         channels = channels_left s refl applied.channels;
         messages = messages_left s refl applied.messages;
         waiting = waiting_left s (λ u. refl) refl applied.waiting;
+        deals = deals_left s refl applied.deals;
         outbox = outbox_left s refl applied.outbox;
       }
 
@@ -263,6 +267,7 @@ module _ (old new : Tables) (j : List Stamped) (stands : Holds old j) where
         channels = channels_left s refl applied.channels;
         messages = messages_left s refl applied.messages;
         waiting = waiting_left s (λ u. refl) refl applied.waiting;
+        deals = deals_left s refl applied.deals;
         outbox = outbox_left s refl applied.outbox;
       }
 
@@ -273,7 +278,7 @@ module _ (old new : Tables) (j : List Stamped) (stands : Holds old j) where
   after_group at name members (effect.Membership group user on) there ascending fits applied last = absurd fits
   after_group at name members (effect.Channel channel) there ascending fits applied last = absurd fits
   after_group at name members (effect.Subscription ch user on) there ascending fits applied last = absurd fits
-  after_group at name members (effect.Message message new_waiting) there ascending fits applied last = absurd fits
+  after_group at name members (effect.Message message new_waiting deal) there ascending fits applied last = absurd fits
   after_group at name members (effect.Mailed user entries) there ascending fits applied last = absurd fits
   after_group at name members (effect.Group group set) there ascending fits applied last =
       let s : Stamped = record { at = at; event = Asked (AddGroup name members) } in
@@ -299,6 +304,7 @@ module _ (old new : Tables) (j : List Stamped) (stands : Holds old j) where
         channels = channels_left s refl applied.channels;
         messages = messages_left s refl applied.messages;
         waiting = waiting_left s (λ u. refl) refl applied.waiting;
+        deals = deals_left s refl applied.deals;
         outbox = outbox_left s refl applied.outbox;
       }
     where
@@ -332,6 +338,7 @@ module _ (old new : Tables) (j : List Stamped) (stands : Holds old j) where
         channels = channels_left s refl applied.channels;
         messages = messages_left s refl applied.messages;
         waiting = waiting_left s (λ u. refl) refl applied.waiting;
+        deals = deals_left s refl applied.deals;
         outbox = outbox_left s refl applied.outbox;
       }
 
@@ -355,6 +362,7 @@ module _ (old new : Tables) (j : List Stamped) (stands : Holds old j) where
         channels = applied.channels ∙ (ap (λ ns. ns ++ name ∷ []) stands.channels ∙ sym more);
         messages = messages_left s refl applied.messages;
         waiting = waiting_left s (λ u. refl) refl applied.waiting;
+        deals = deals_left s refl applied.deals;
         outbox = outbox_left s refl applied.outbox;
       }
     where
@@ -386,11 +394,12 @@ module _ (old new : Tables) (j : List Stamped) (stands : Holds old j) where
         channels = channels_left s refl applied.channels;
         messages = messages_left s refl applied.messages;
         waiting = waiting_left s (λ u. refl) refl applied.waiting;
+        deals = deals_left s refl applied.deals;
         outbox = outbox_left s refl applied.outbox;
       }
 
   after_send : (at : ℕ) (sender : UserId) (channel : ChannelId) (topic text : List ℕ) (e : Effect)
-      → IsMessage e (record { sender = sender; channel = channel; topic = topic; text = text }) (map notice_kept (owed_by (occurrence j (record { at = at; event = Asked (Send sender channel topic text) }))))
+      → IsMessage e (record { sender = sender; channel = channel; topic = topic; text = text }) (map notice_kept (owed_by (occurrence j (record { at = at; event = Asked (Send sender channel topic text) })))) (deal_of (occurrence j (record { at = at; event = Asked (Send sender channel topic text) })))
       → IsApplied old new e → new.last ≡ at → Holds new (j ++ record { at = at; event = Asked (Send sender channel topic text) } ∷ [])
   after_send at sender channel topic text effect.Start fits applied last = absurd fits
   after_send at sender channel topic text (effect.User user bot) fits applied last = absurd fits
@@ -399,7 +408,7 @@ module _ (old new : Tables) (j : List Stamped) (stands : Holds old j) where
   after_send at sender channel topic text (effect.Channel name) fits applied last = absurd fits
   after_send at sender channel topic text (effect.Subscription ch user on) fits applied last = absurd fits
   after_send at sender channel topic text (effect.Mailed user entries) fits applied last = absurd fits
-  after_send at sender channel topic text (effect.Message message new_waiting) fits applied last =
+  after_send at sender channel topic text (effect.Message message new_waiting deal) fits applied last =
       let s : Stamped = record { at = at; event = Asked (Send sender channel topic text) } in
       let m : SentMessage = record { past = j; sender = sender; channel = channel; topic = topic; text = text } in
       record {
@@ -417,6 +426,7 @@ module _ (old new : Tables) (j : List Stamped) (stands : Holds old j) where
             ∙ (sym (map-append message_kept (messages j) (m ∷ [])) ∙ ap (map message_kept) (sym (messages-append j s)))));
         waiting = applied.waiting ∙ (ap (λ ws. ws ++ new_waiting.items) stands.waiting ∙ (ap (λ ws. map notice_kept (waiting j) ++ ws) fits.1
             ∙ (sym (map-append notice_kept (waiting j) (owed_by (occurrence j s))) ∙ ap (map notice_kept) (sym (more_waiting s (λ u. refl))))));
+        deals = applied.deals ∙ (ap (λ d. old.deals.items ++ d ∷ []) fits.2 ∙ (ap (λ ds. ds ++ deal_of (occurrence j s) ∷ []) stands.deals ∙ sym (deals-append j s)));
         outbox = outbox_left s refl applied.outbox;
       }
 
@@ -427,7 +437,7 @@ module _ (old new : Tables) (j : List Stamped) (stands : Holds old j) where
   after_mails at user (effect.Membership group u on) fits applied last = absurd fits
   after_mails at user (effect.Channel name) fits applied last = absurd fits
   after_mails at user (effect.Subscription ch u on) fits applied last = absurd fits
-  after_mails at user (effect.Message message new_waiting) fits applied last = absurd fits
+  after_mails at user (effect.Message message new_waiting deal) fits applied last = absurd fits
   after_mails at user (effect.Mailed mailed entries) fits applied last =
       let s : Stamped = record { at = at; event = MailTurn user } in
       record {
@@ -447,6 +457,7 @@ module _ (old new : Tables) (j : List Stamped) (stands : Holds old j) where
             ∙ (filter-map (λ w. not (is_mail_to user w)) notice_kept (waiting j)
             ∙ ap (map notice_kept) (filter_same (λ n. not (is_mail_of user n)) (λ n. not (is_turn s n)) (λ n. ap not (turn_of_mail old j stands user n.user n.way)) (waiting j)
             ∙ (sym (append-nil (filter (λ n. not (is_turn s n)) (waiting j))) ∙ sym (waiting-append j s))))));
+        deals = deals_left s refl applied.deals;
         outbox = applied.outbox ∙ (ap (λ es. es ++ entries.items) stands.outbox ∙ (ap (λ es. outbox j ++ es) fits.1 ∙ sym (outbox-append j s)));
       }
 
@@ -509,16 +520,16 @@ applied_at old new at e applied = record {
   subscribers = applied.subscribers;
   messages = applied.messages;
   waiting = applied.waiting;
+  deals = applied.deals;
   outbox = applied.outbox;
 }
 
 no_start : 0 ≡ in_64_bits (start_count [])
-unfolding start_count
-no_start = refl
+no_start = ap in_64_bits (sym start_count-nil)
 
 -- the tables of the empty journal
-pub empty_stands : (t : Tables) → t.last ≡ 0 → t.starts ≡ 0 → t.names.items ≡ [] → t.bots.items ≡ [] → t.groups.items ≡ [] → t.members.items ≡ [] → t.channels.items ≡ [] → t.subscribers.items ≡ [] → t.messages.items ≡ [] → t.waiting.items ≡ [] → t.outbox.items ≡ [] → Holds t []
-empty_stands t last starts names bots group_list members channel_list subscribers ms ws es = record {
+pub empty_stands : (t : Tables) → t.last ≡ 0 → t.starts ≡ 0 → t.names.items ≡ [] → t.bots.items ≡ [] → t.groups.items ≡ [] → t.members.items ≡ [] → t.channels.items ≡ [] → t.subscribers.items ≡ [] → t.messages.items ≡ [] → t.waiting.items ≡ [] → t.deals.items ≡ [] → t.outbox.items ≡ [] → Holds t []
+empty_stands t last starts names bots group_list members channel_list subscribers ms ws ds es = record {
   last = last;
   starts = starts ∙ no_start;
   names = names ∙ ap (named_from 1) (sym people-nil);
@@ -531,6 +542,7 @@ empty_stands t last starts names bots group_list members channel_list subscriber
   channels = channel_list ∙ sym channels-nil;
   messages = ms ∙ ap (map message_kept) (sym messages-nil);
   waiting = ws ∙ ap (map notice_kept) (sym waiting-nil);
+  deals = ds ∙ sym deals-nil;
   outbox = es ∙ sym outbox-nil;
 }
   where

@@ -9,3 +9,4 @@ pub mod Soonest
 pub mod SetPlaces
 pub mod Following
 pub mod After
+pub mod RowLists

@@ -1,6 +1,7 @@
 -- What an effect leaves in the tables.
 use Rattle.std.specs.Prelude.{◌≡◌, ℕ, ◌+◌, ◌-◌, ◌^◌, Bool, not, List, [], ◌∷◌, ◌++◌, filter, map, min}
 use Rattle.chat_model.specs.declared.entry.Entry.{Entry}
+use Rattle.chat_model.specs.declared.deal.Deal.{Deal}
 use Rattle.chat_model.specs.declared.ids.UserId.{UserId}
 use Rattle.chat_model.specs.declared.mentions.UserName.{UserName}
 use Rattle.chat_model.specs.declared.mentions.GroupName.{GroupName}
@@ -51,14 +52,19 @@ subscribers_after _ all = all
 
 -- the messages after an effect
 abbrev pub messages_after : Effect → List Message → List Message
-messages_after (effect.Message message waiting) messages = messages ++ message ∷ []
+messages_after (effect.Message message waiting deal) messages = messages ++ message ∷ []
 messages_after _ messages = messages
 
 -- the notices that wait after an effect
 abbrev pub waiting_after : Effect → List Waiting → List Waiting
-waiting_after (effect.Message message new) waiting = waiting ++ new.items
+waiting_after (effect.Message message new deal) waiting = waiting ++ new.items
 waiting_after (effect.Mailed user entries) waiting = filter (λ w. not (is_mail_to user w)) waiting
 waiting_after _ waiting = waiting
+
+-- the deals after an effect
+abbrev pub deals_after : Effect → List Deal → List Deal
+deals_after (effect.Message message waiting deal) deals = deals ++ deal ∷ []
+deals_after _ deals = deals
 
 -- the outbox after an effect
 abbrev pub outbox_after : Effect → List Entry → List Entry
@@ -76,6 +82,7 @@ pub record IsApplied (old new : Tables) (e : Effect) : Type 0 where
   pub subscribers : map users_in new.subscribers.items ≡ subscribers_after e (map users_in old.subscribers.items)
   pub messages : new.messages.items ≡ messages_after e old.messages.items
   pub waiting : new.waiting.items ≡ waiting_after e old.waiting.items
+  pub deals : new.deals.items ≡ deals_after e old.deals.items
   pub outbox : new.outbox.items ≡ outbox_after e old.outbox.items
 
 -- the tables hold the same
@@ -90,4 +97,5 @@ pub record HoldTheSame (old new : Tables) : Type 0 where
   pub subscribers : map users_in new.subscribers.items ≡ map users_in old.subscribers.items
   pub messages : new.messages.items ≡ old.messages.items
   pub waiting : new.waiting.items ≡ old.waiting.items
+  pub deals : new.deals.items ≡ old.deals.items
   pub outbox : new.outbox.items ≡ old.outbox.items

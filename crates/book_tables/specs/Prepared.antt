@@ -13,9 +13,11 @@ use Rattle.chat_model.specs.declared.row.RowKey.TheVariants as key
 use Rattle.chat_model.specs.declared.row.RowChange.{RowChange}
 use Rattle.chat_model.specs.declared.row.Stage.TheVariants.{Ready}
 use Rattle.chat_model.specs.declared.entry.Entry.{Entry}
+use Rattle.chat_model.specs.declared.deal.Deal.{Deal}
 use Rattle.notice_ledger.specs.Past.Journal.{occurrence}
 use Rattle.notice_ledger.specs.Past.Values.{people, groups}
 use Rattle.notice_ledger.specs.Past.Owed.{owed_by}
+use Rattle.notice_ledger.specs.Past.Deals.{deal_of}
 use Rattle.notice_ledger.specs.Past.Outbox.{mail_entries}
 use Rattle.notice_ledger.specs.Lawful.{lawful, is_lawful_after}
 use Rattle.book_tables.specs.declared.tables.Message.{Message}
@@ -41,10 +43,10 @@ abbrev pub IsGroup : Effect → GroupName → List UserId → Type 0
 IsGroup (effect.Group group members) g us = (group ≡ g) × (users_in members ≡ us)
 IsGroup _ g us = ⊥
 
--- the effect adds this message with these notices
-abbrev pub IsMessage : Effect → Message → List Waiting → Type 0
-IsMessage (effect.Message message waiting) m ws = (message ≡ m) × (waiting.items ≡ ws)
-IsMessage _ m ws = ⊥
+-- the effect adds this message with these notices and this deal
+abbrev pub IsMessage : Effect → Message → List Waiting → Deal → Type 0
+IsMessage (effect.Message message waiting deal) m ws d = (message ≡ m) × (waiting.items ≡ ws) × (deal ≡ d)
+IsMessage _ m ws d = ⊥
 
 -- the effect hands these entries to the user
 abbrev pub IsMailed : Effect → UserId → List Entry → Type 0
@@ -61,7 +63,7 @@ IsEffectOf past at (Asked (AddChannel name)) e = e ≡ effect.Channel name
 IsEffectOf past at (Asked (Subscribe user channel on)) e = e ≡ effect.Subscription channel user on
 IsEffectOf past at (Asked (Send sender channel topic text)) e =
     let m : Message = record { sender = sender; channel = channel; topic = topic; text = text } in
-    IsMessage e m (map notice_kept (owed_by (occurrence past (send_of at m))))
+    IsMessage e m (map notice_kept (owed_by (occurrence past (send_of at m)))) (deal_of (occurrence past (send_of at m)))
 IsEffectOf past at (MailTurn user) e = IsMailed e user (mail_entries past at user)
 
 -- it was prepared for this event behind these, which all count

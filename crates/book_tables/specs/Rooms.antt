@@ -15,8 +15,9 @@ HasRoom t (effect.Group group members) = (vec_len t.groups < vec_capacity t.grou
 HasRoom t (effect.Membership group user on) = on ≡ true → IfSome (numbered group.0 t.members.items) HasPlace
 HasRoom t (effect.Channel name) = (vec_len t.channels < vec_capacity t.channels) × (vec_len t.subscribers < vec_capacity t.subscribers)
 HasRoom t (effect.Subscription channel user on) = on ≡ true → IfSome (numbered channel.0 t.subscribers.items) HasPlace
-HasRoom t (effect.Message message waiting) =
+HasRoom t (effect.Message message waiting deal) =
     (vec_len t.messages < vec_capacity t.messages) × (vec_len t.waiting + vec_len waiting ≤ vec_capacity t.waiting)
+    × (vec_len t.deals < vec_capacity t.deals)
 HasRoom t (effect.Mailed user entries) = vec_len t.outbox + vec_len entries ≤ vec_capacity t.outbox
 
 -- the tables have room for what was prepared

@@ -1,8 +1,7 @@
 -- When the tables stand for a journal.
-use Rattle.std.specs.Prelude.{◌≡◌, ℕ, ◌+◌, Option, Bool, true, false, ◌&&◌, ◌==◌, List, length, map, count_by}
+use Rattle.std.specs.Prelude.{◌≡◌, ℕ, ◌+◌, Option, Bool, ◌&&◌, ◌==◌, List, length, map}
 use Rattle.chat_model.specs.declared.event.Stamped.{Stamped}
-use Rattle.chat_model.specs.declared.event.Event.{Event}
-use Rattle.chat_model.specs.declared.event.Event.TheVariants.{Restart, Asked}
+use Rattle.chat_model.specs.declared.event.Event.TheVariants.{Asked}
 use Rattle.chat_model.specs.declared.request.Request.TheVariants.{Send}
 use Rattle.chat_model.specs.declared.ids.UserId.{UserId}
 use Rattle.chat_model.specs.declared.ids.ChannelId.{ChannelId}
@@ -14,6 +13,8 @@ use Rattle.notice_ledger.specs.Past.Journal.{last_stamp}
 use Rattle.notice_ledger.specs.Past.Values.{SentMessage, people, user_names, groups, group_names, is_member, channels, messages, subscribed}
 use Rattle.notice_ledger.specs.Past.Triggers.{came_by}
 use Rattle.notice_ledger.specs.Past.Owed.{Notice, waiting, same_way}
+use Rattle.notice_ledger.specs.Past.Deals.{deals}
+pub use Rattle.notice_ledger.specs.Past.Runs.{start_count}
 use Rattle.notice_ledger.specs.Past.Due.{DueUser}
 use Rattle.notice_ledger.specs.Past.Outbox.{outbox}
 use Rattle.notice_ledger.specs.Past.Audit.{in_64_bits}
@@ -48,15 +49,6 @@ next_notice many at via u way = record {
   ready = at;
 }
 
--- an event is a start of the office
-abbrev pub is_restart : Event → Bool
-is_restart Restart = true
-is_restart _ = false
-
--- the number of starts
-unfoldable pub start_count : List Stamped → ℕ
-start_count j = count_by (λ s. is_restart s.event) j
-
 -- the tables hold what these events, which all count, leave
 pub record Holds (t : Tables) (past : List Stamped) : Type 0 where
   pub last : t.last ≡ last_stamp past
@@ -71,6 +63,7 @@ pub record Holds (t : Tables) (past : List Stamped) : Type 0 where
   pub channels : t.channels.items ≡ channels past
   pub messages : t.messages.items ≡ map message_kept (messages past)
   pub waiting : t.waiting.items ≡ map notice_kept (waiting past)
+  pub deals : t.deals.items ≡ deals past
   pub outbox : t.outbox.items ≡ outbox past
 
 -- the tables stand for a list of events: they hold what its lawful events leave

@@ -45,6 +45,7 @@ impl Tables {
             }
             Effect::Message { waiting, .. } => {
                 self.messages.reserve(1)?;
+                self.deals.reserve(1)?;
                 self.waiting.reserve(waiting.len())?;
                 Ok(())
             }
@@ -92,8 +93,10 @@ impl Tables {
             Effect::Message {
                 message,
                 mut waiting,
+                deal,
             } => {
                 self.messages.push_reserved(message);
+                self.deals.push_reserved(deal);
                 self.waiting.append(&mut waiting).unwrap();
                 return;
             }

@@ -8,12 +8,14 @@
 
 mod apply;
 mod audit;
+mod deals;
 mod due;
 mod entries;
 mod lawful;
 mod notices;
 mod prepared;
 mod refusal;
+mod rows;
 mod sets;
 mod tables;
 mod user_set;

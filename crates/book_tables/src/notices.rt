@@ -28,7 +28,7 @@ impl Tables {
     ghost use Rattle.notice_ledger.specs.Past.Owed.{owed_by};
     ghost use Rattle.book_tables.specs.Tables.{Holds, message_kept, notice_kept, send_of, next_notice};
 
-    fn is_bot(&self, user: UserId) -> bool
+    pub(crate) fn is_bot(&self, user: UserId) -> bool
         ensures { (past : List Stamped) → Holds self.now past → result ≡ is_bot past user }
     {
         match item_at(&self.bots, user.0) {

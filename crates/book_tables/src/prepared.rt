@@ -13,8 +13,8 @@ ghost use Rattle.book_tables.specs.Prepared.{notice_row, key_of_notice, changes_
 use crate::tables::{Message, Tables, Waiting};
 use crate::user_set::UserSet;
 use chat_model::{
-    ChannelId, Entry, EntryNo, Event, GroupId, GroupName, List, MessageId, Moment, OutOfMemory,
-    Request, Row, RowChange, RowKey, Settings, Stage, Stamped, Text, UserId, UserName,
+    ChannelId, Deal, Entry, EntryNo, Event, GroupId, GroupName, List, MessageId, Moment,
+    OutOfMemory, Request, Row, RowChange, RowKey, Settings, Stage, Stamped, Text, UserId, UserName,
 };
 use std::alloc::Global;
 
@@ -54,6 +54,7 @@ pub enum Effect {
     Message {
         message: Message,
         waiting: Vec<Waiting>,
+        deal: Deal,
     },
     Mailed {
         user: UserId,
@@ -71,7 +72,10 @@ impl Prepared {
 }
 
 /// Adds the rows of notices that wait.
-fn put_notices(changes: &mut Vec<RowChange>, waiting: &[Waiting]) -> Result<(), OutOfMemory>
+pub(crate) fn put_notices(
+    changes: &mut Vec<RowChange>,
+    waiting: &[Waiting],
+) -> Result<(), OutOfMemory>
     ensures { OnOk result (changes.new.items ≡ changes.old.items ++ map (λ w. Put (notice_row w)) waiting.now) }
 {
     for notice in waiting {
@@ -108,7 +112,7 @@ fn remove_mails(
 }
 
 /// Adds the rows of the outbox entries that follow so many others.
-fn put_entries(
+pub(crate) fn put_entries(
     alloc: Global,
     changes: &mut Vec<RowChange>,
     before: usize,
@@ -180,6 +184,7 @@ impl Tables {
         ensures { IfOk result (λ p. (past : Items Stamped) → Holds self.now past → Follows past (send_of at message) p) }
     {
         let waiting = self.owed(at, &message)?;
+        let deal = self.deal_of(&waiting)?;
         let mut changes = Vec::new(self.alloc);
         changes.push(RowChange::Put(Row::Message {
             id: MessageId(self.messages.len() as u64 + 1),
@@ -191,7 +196,11 @@ impl Tables {
         Ok(Prepared {
             at,
             changes,
-            effect: Effect::Message { message, waiting },
+            effect: Effect::Message {
+                message,
+                waiting,
+                deal,
+            },
         })
     }
 

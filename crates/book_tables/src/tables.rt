@@ -7,8 +7,8 @@ ghost use Rattle.book_tables.specs.Tables.{is_mail_to};
 
 use crate::user_set::UserSet;
 use chat_model::{
-    Answer, ChannelId, DealNo, Entry, EntryNo, GroupId, GroupName, MessageId, Moment, OutOfMemory,
-    Request, Text, Trigger, UserId, UserName, Way,
+    Answer, ChannelId, Deal, DealNo, Entry, EntryNo, GroupId, GroupName, MessageId, Moment,
+    OutOfMemory, Request, Text, Trigger, UserId, UserName, Way,
 };
 use std::alloc::Global;
 
@@ -56,6 +56,8 @@ pub struct Tables {
     pub(crate) subscribers: Vec<UserSet>,
     pub(crate) messages: Vec<Message>,
     pub(crate) waiting: Vec<Waiting>,
+    /// By their numbers, from 0.
+    pub(crate) deals: Vec<Deal>,
     pub(crate) outbox: Vec<Entry>,
 }
 
@@ -118,6 +120,7 @@ impl Tables {
             subscribers: Vec::new(alloc),
             messages: Vec::new(alloc),
             waiting: Vec::new(alloc),
+            deals: Vec::new(alloc),
             outbox: Vec::new(alloc),
         }
     }

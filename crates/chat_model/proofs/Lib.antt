@@ -3,4 +3,5 @@ pub mod Blocks
 pub mod Digits
 pub mod Keys
 pub mod OnceEach
+pub mod PlaceLemmas
 pub mod Rows

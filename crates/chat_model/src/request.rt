@@ -113,6 +113,10 @@ pub enum Refusal {
     TextTooLong,
     /// 19: the topic has more than 60 characters.
     TopicTooLong,
+    /// 21: the user has no live queue of that id. The hub tells it.
+    BadQueue,
+    /// 22: the acked number is at least this one, the queue's next event number. The hub tells it.
+    BadEventId { next: u64 },
     /// 23: a list of the request has more items than the limit, or the channel of a send more subscribers.
     TooMany { limit: u64 },
     /// 24: the name has more than 100 characters.
@@ -136,6 +140,8 @@ impl Refusal {
             Refusal::EmptyText => 17,
             Refusal::TextTooLong => 18,
             Refusal::TopicTooLong => 19,
+            Refusal::BadQueue => 21,
+            Refusal::BadEventId { .. } => 22,
             Refusal::TooMany { .. } => 23,
             Refusal::NameTooLong => 24,
             Refusal::BadName => 25,

@@ -3,7 +3,6 @@
 
 mod keeper;
 mod memory;
-mod places;
 #[cfg(test)]
 mod tests;
 

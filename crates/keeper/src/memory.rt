@@ -6,9 +6,8 @@ ghost use Rattle.chat_model.specs.Rows.{IsAscending};
 ghost use Rattle.keeper.specs.Kept.{committed, faults_told};
 ghost use Rattle.keeper.specs.Memory.{Memory, counted, FailsNext, IsNextCall, faults_after};
 
-use crate::places::change_all;
 use crate::{KeepFault, Keeper, Kept};
-use chat_model::{List, Row, RowChange, Stamped, duplicate_all};
+use chat_model::{List, Row, RowChange, Stamped, change_all, duplicate_all};
 use std::alloc::Global;
 use std::marker::Model;
 
@@ -45,6 +44,21 @@ impl MemoryKeeper {
             journal: Vec::new(alloc),
             rows: Vec::new(alloc),
             failing,
+            calls: 0,
+            faults: 0,
+        }
+    }
+
+    /// A keeper that keeps this journal and these rows, and of which no call fails.
+    pub fn holding(alloc: Global, kept: Kept) -> MemoryKeeper
+        requires { IsAscending kept.rows }
+        ensures { result ≡ record { kept = kept; failing = []; calls = 0; faults = 0 } }
+    {
+        MemoryKeeper {
+            alloc,
+            journal: kept.journal.into_vec(),
+            rows: kept.rows.into_vec(),
+            failing: List::new(alloc),
             calls: 0,
             faults: 0,
         }

@@ -1,3 +1,4 @@
 pub mod Ascents
 pub mod OrderlyLists
+pub mod Taking
 pub mod Waiting

@@ -6,8 +6,10 @@
 
 mod pipe;
 mod post;
+mod take;
 #[cfg(test)]
 mod tests;
 
 pub use pipe::PlainPipe;
 pub use post::{Post, front_is_orderly};
+pub use take::Take;

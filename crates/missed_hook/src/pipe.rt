@@ -1,8 +1,10 @@
 //! A pipe within one thread.
 ghost use Rattle.std.specs.Prelude.{◌≡◌, [], ◌∷◌, ◌++◌, IfErr, OnOk, OnErr};
+ghost use Rattle.std.specs.Option.{option_to_list};
 ghost use Rattle.missed_hook.specs.Orderly.{IsOrderly};
+ghost use Rattle.missed_hook.specs.Passed.{TakesNext};
 
-use crate::Post;
+use crate::{Post, Take};
 use chat_model::Outcome;
 use std::alloc::Global;
 use std::collections::VecDeque;
@@ -70,5 +72,18 @@ impl Post for PlainPipe {
             unreachable!()
         }
         Ok(())
+    }
+}
+
+impl Take for PlainPipe {
+    ghost taken = { λ p. p.taken };
+
+    ghost took = { λ before answer after. TakesNext before answer after };
+
+    fn take(&mut self) -> Option<Outcome>
+        ensures taken { self.new.taken ≡ self.old.taken ++ option_to_list result }
+        ensures took { TakesNext self.old result self.new }
+    {
+        self.waiting.pop_front()
     }
 }

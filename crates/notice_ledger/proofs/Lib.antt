@@ -5,6 +5,7 @@ pub mod Ascending
 pub mod Batches
 pub mod Audited
 pub mod Sent
+pub mod DealLemmas
 pub mod LawfulLemmas
 pub mod Sums
 pub mod Apart

@@ -5,6 +5,7 @@ pub mod Past
 pub mod Lawful
 pub mod Journal
 pub mod Owed
+pub mod Deals
 pub mod Due
 pub mod Outbox
 pub mod Audit

@@ -5,6 +5,8 @@ pub mod Journal
 pub mod Values
 pub mod Triggers
 pub mod Owed
+pub mod Deals
+pub mod Runs
 pub mod Due
 pub mod Outbox
 pub mod Audit

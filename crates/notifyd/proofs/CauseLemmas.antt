@@ -1,18 +1,20 @@
 -- The cause of a status.
-use Rattle.std.proofs.Common.{◌≡◌, ◌≢◌, ℕ, Bool, true, false, List, Option, refl, sym, ◌∙◌, arith}
+use Rattle.std.proofs.Common.{◌≡◌, ◌≢◌, ℕ, Bool, true, false, List, Option, refl, sym, ◌∙◌, arith, inl, inr, ◌⊎◌}
 use Rattle.std.specs.Prelude.{count_by}
 use Rattle.std.specs.List.{list_any}
 use Rattle.chat_model.specs.Counts.{HasRisen}
+use Rattle.office.specs.declared.answer.StartFault.{StartFault}
 use Rattle.office.specs.declared.answer.StartFault.TheVariants as start
 use Rattle.notifyd.specs.declared.reply.Reply.{Reply}
 use Rattle.notifyd.specs.declared.ending.Ending.{Ending}
-use Rattle.notifyd.specs.declared.ending.Ending.TheVariants.{InputEnded, BadLine, SourceFault, TooLong, SinkFault, NotStarted}
+use Rattle.notifyd.specs.declared.ending.Ending.TheVariants.{InputEnded, BadLine, SourceFault, TooLong, SinkFault, NotStarted, Audited}
 use Rattle.notifyd.specs.declared.ending.Met.{Met}
 use Rattle.notifyd.specs.Play.{HaveRisen, is_keeper_fault}
 use Rattle.notifyd.specs.Ending.{last_text, status_met, status_of}
 use Rattle.notifyd.specs.Status.{status_number}
-use Rattle.notifyd.specs.Run.{Devices, WentAs, RanAs, HasCause}
+use Rattle.notifyd.specs.Run.{Devices, IsUnstarted, WentAs, RanAs, HasCause}
 use Rattle.notifyd.proofs.CompleteLemmas.{some_fault}
+use Rattle.notifyd.proofs.KeptLemmas.{kept_differ}
 
 -- what was met gives no other status
 not_met : (keeper_fault out_of_memory : Bool) (status n : ℕ) → status ≡ status_number (status_met keeper_fault out_of_memory) → status ≡ n → n ≢ 0 → n ≢ 5 → n ≢ 7 → ⊥
@@ -31,6 +33,27 @@ fault_risen replies fault before now is risen met = let some = some_fault replie
 -- a status of another ending
 other : {P : Type 0} (status n m : ℕ) → status ≡ n → n ≢ m → status ≡ m → P
 other status n m exit apart is = absurd (apart (sym exit ∙ is))
+
+-- there was no start
+pub unstarted_cause : (why : StartFault) (met : Met) (before now : Devices) (status : ℕ) → IsUnstarted why before now → status ≡ status_number (status_of (NotStarted why) met) → HasCause status before now
+unstarted_cause start.KeeperFault met before now status p exit = record {
+  source = other status 5 3 exit (λ h. omega (arith, h));
+  sink = other status 5 4 exit (λ h. omega (arith, h));
+  keeper = λ e. p.cause refl;
+  kept = other status 5 8 exit (λ h. omega (arith, h));
+}
+unstarted_cause start.OutOfMemory met before now status p exit = record {
+  source = other status 7 3 exit (λ h. omega (arith, h));
+  sink = other status 7 4 exit (λ h. omega (arith, h));
+  keeper = other status 7 5 exit (λ h. omega (arith, h));
+  kept = other status 7 8 exit (λ h. omega (arith, h));
+}
+unstarted_cause (start.Disagree kept replayed) met before now status p exit = record {
+  source = other status 8 3 exit (λ h. omega (arith, h));
+  sink = other status 8 4 exit (λ h. omega (arith, h));
+  keeper = other status 8 5 exit (λ h. omega (arith, h));
+  kept = λ e. kept_differ before.kept kept replayed (p.disagree kept replayed refl);
+}
 
 pub has_cause : (before now : Devices) (status number : ℕ) → status ≡ number → RanAs before number now → HasCause status before now
 has_cause before now status number is ran = by ran.ending ran.met ran.went (is ∙ ran.exit)
@@ -66,21 +89,28 @@ has_cause before now status number is ran = by ran.ending ran.met ran.went (is �
       keeper = other status 4 5 exit (λ h. omega (arith, h));
       kept = other status 4 8 exit (λ h. omega (arith, h));
     }
-    by (NotStarted start.KeeperFault) met p exit = record {
-      source = other status 5 3 exit (λ h. omega (arith, h));
-      sink = other status 5 4 exit (λ h. omega (arith, h));
-      keeper = λ e. p.unstarted.cause refl;
-      kept = other status 5 8 exit (λ h. omega (arith, h));
-    }
-    by (NotStarted start.OutOfMemory) met p exit = record {
-      source = other status 7 3 exit (λ h. omega (arith, h));
-      sink = other status 7 4 exit (λ h. omega (arith, h));
-      keeper = other status 7 5 exit (λ h. omega (arith, h));
-      kept = other status 7 8 exit (λ h. omega (arith, h));
-    }
-    by (NotStarted start.NotEmpty) met p exit = record {
-      source = other status 8 3 exit (λ h. omega (arith, h));
-      sink = other status 8 4 exit (λ h. omega (arith, h));
-      keeper = other status 8 5 exit (λ h. omega (arith, h));
-      kept = λ e. p.unstarted.not_empty refl;
-    }
+    by (NotStarted why) met p exit = unstarted_cause why met before now status p.unstarted exit
+    by (Audited counts) met p exit = absurd p.ends
+
+-- a status that is no fault's
+pub one_status : (n : ℕ) (before now : Devices) (status : ℕ) → status ≡ n → n ≢ 3 → n ≢ 4 → n ≢ 5 → n ≢ 8 → HasCause status before now
+one_status n before now status exit a b c d = record {
+  source = other status n 3 exit a;
+  sink = other status n 4 exit b;
+  keeper = other status n 5 exit c;
+  kept = other status n 8 exit d;
+}
+
+-- the sink failed
+pub sink_cause : (before now : Devices) (status : ℕ) → status ≡ 4 → HasRisen before.sink_faults now.sink_faults → HasCause status before now
+sink_cause before now status exit risen = record {
+  source = other status 4 3 exit (λ h. omega (arith, h));
+  sink = λ e. risen;
+  keeper = other status 4 5 exit (λ h. omega (arith, h));
+  kept = other status 4 8 exit (λ h. omega (arith, h));
+}
+
+-- the words were no command
+pub no_command_cause : (before now : Devices) (status : ℕ) → (status ≡ 1) ⊎ ((status ≡ 4) × HasRisen before.sink_faults now.sink_faults) → HasCause status before now
+no_command_cause before now status (inl exit) = one_status 1 before now status exit (λ h. omega (arith, h)) (λ h. omega (arith, h)) (λ h. omega (arith, h)) (λ h. omega (arith, h))
+no_command_cause before now status (inr h) = sink_cause before now status h.0 h.1

@@ -1,23 +1,23 @@
 -- A run over a script that can be read, at which nothing fails.
 use Rattle.std.proofs.Common.{◌≡◌, ℕ, ◌+◌, ◌-◌, ◌<◌, ◌≤◌, Bool, true, false, cond, List, [], ◌∷◌, ◌++◌, length, drop, zero, suc, Option, Some, None, Result, refl, sym, ap, ◌∙◌, subst, append_assoc, length-append, take-append-drop, arith, inl, inr, ◌⊎◌, ◌||◌}
-use Rattle.std.specs.Prelude.{slice_get, IfSome, IsSome, IsOk, count_by}
+use Rattle.std.specs.Prelude.{slice_get, IfSome, IsOk, count_by}
 use Rattle.std.specs.List.{AllByRecursion, list_any}
 use Rattle.std.proofs.lemmas.List.{append-nil}
 use Rattle.std.proofs.lemmas.List.Sums.{sum_by-append}
 use Rattle.chat_model.specs.Counts.{HasRisen}
-use Rattle.keeper.specs.declared.keeper.Kept.{Kept}
 use Rattle.office.specs.declared.answer.StartFault.TheVariants as start
 use Rattle.notifyd.specs.declared.reply.Reply.{Reply}
 use Rattle.notifyd.specs.declared.line.Line.{Line}
 use Rattle.notifyd.specs.declared.ending.Ending.{Ending}
-use Rattle.notifyd.specs.declared.ending.Ending.TheVariants.{InputEnded, BadLine, SourceFault, TooLong, SinkFault, NotStarted}
+use Rattle.notifyd.specs.declared.ending.Ending.TheVariants.{InputEnded, BadLine, SourceFault, TooLong, SinkFault, NotStarted, Audited}
 use Rattle.notifyd.specs.declared.ending.Met.{Met}
 use Rattle.notifyd.specs.Grammar.{reading}
 use Rattle.notifyd.specs.Cut.{IsBadLine, cut_of, all_lines, last_line, allowed, max_script}
 use Rattle.notifyd.specs.Play.{HaveRisen, is_keeper_fault}
 use Rattle.notifyd.specs.Ending.{last_text, status_met, status_of}
-use Rattle.notifyd.specs.Status.{status_number, KeptIsEmpty}
-use Rattle.notifyd.specs.Run.{Devices, Gave, IsAtEnd, IsWithin, WentAs, RanAs, GoesWell}
+use Rattle.notifyd.specs.Status.{status_number, KeptDiffers}
+use Rattle.notifyd.specs.Run.{Devices, Gave, IsAtEnd, IsWithin, WentAs, RanAs, NoneFailed, GoesWell}
+use Rattle.notifyd.proofs.KeptLemmas.{kept_differ, not_consistent, not_differing}
 use Rattle.notifyd.proofs.CutLemmas.{allowed-within, IsBadLine-of_front, IsBadLine-complete}
 
 -- one of the lines, each of which can be read
@@ -31,14 +31,6 @@ none_bad lines number column all b =
     let P : Result Line ℕ → Type 0 = λ read. IsOk read in
     let h : false ≡ true = subst P b.bad (readable-at lines (number - 1) b.line all b.there) in
     cc
-
--- something kept, where nothing is
-not_kept : (kept : Option Kept) → IsSome kept → KeptIsEmpty kept → IfSome kept (λ it. 0 < length it.journal + length it.rows) → ⊥
-not_kept None tells empty h = cc
-not_kept (Some kept) tells empty h =
-    let journal = ap length empty.0 in
-    let rows = ap length empty.1 in
-    omega (arith, h, journal, rows)
 
 -- what a source that tells has left
 record Left (script taken : List ℕ) (now : Option (List ℕ)) : Type 0 where
@@ -114,4 +106,16 @@ complete before now status number is ran well = by ran.ending ran.met ran.went (
     by SinkFault met p exit = absurd (well.none_failed.sink p.cause)
     by (NotStarted start.KeeperFault) met p exit = absurd (well.none_failed.keeper (p.unstarted.cause refl))
     by (NotStarted start.OutOfMemory) met p exit = inr exit
-    by (NotStarted start.NotEmpty) met p exit = absurd (not_kept before.kept well.keeper_tells well.empty (p.unstarted.not_empty refl))
+    by (NotStarted (start.Disagree kept replayed)) met p exit = absurd (not_consistent before.kept well.keeps (kept_differ before.kept kept replayed (p.unstarted.disagree kept replayed refl)))
+    by (Audited counts) met p exit = absurd p.ends
+
+-- over rows that differ from the replay no play begins
+pub differing : (before now : Devices) (status number : ℕ) → status ≡ number → RanAs before number now → KeptDiffers before.kept → NoneFailed before now → (status ≡ 8) ⊎ (status ≡ 7)
+differing before now status number is ran differ none = by ran.ending ran.met ran.went (is ∙ ran.exit)
+  where
+    by : (ending : Ending) (met : Met) → WentAs ending (last_text ending) met before now → status ≡ status_number (status_of ending met) → (status ≡ 8) ⊎ (status ≡ 7)
+    by SinkFault met p exit = absurd (none.sink p.cause)
+    by (NotStarted start.KeeperFault) met p exit = absurd (none.keeper (p.unstarted.cause refl))
+    by (NotStarted start.OutOfMemory) met p exit = inr exit
+    by (NotStarted (start.Disagree kept replayed)) met p exit = inl exit
+    by _ met p exit = absurd (not_differing before.kept p.course.journal differ p.course.stood)

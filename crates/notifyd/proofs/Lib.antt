@@ -6,6 +6,7 @@ pub mod ListedLemmas
 pub mod TextLemmas
 pub mod LineLemmas
 pub mod PlayLemmas
+pub mod HubLemmas
 pub mod CutLemmas
 pub mod GoingLemmas
 pub mod ReadingLemmas
@@ -15,3 +16,4 @@ pub mod ShownLemmas
 pub mod RunLemmas
 pub mod CompleteLemmas
 pub mod CauseLemmas
+pub mod AuditLemmas

@@ -5,30 +5,33 @@ use Rattle.std.specs.List.{list_any, flat_map}
 use Rattle.std.proofs.Math.Seq.{take-append_seam}
 use Rattle.std.proofs.lemmas.List.{append-nil}
 use Rattle.chat_model.specs.Counts.{HasRisen}
+use Rattle.chat_model.specs.declared.event.Stamped.{Stamped}
 use Rattle.keeper.specs.declared.keeper.Kept.{Kept}
 use Rattle.office.specs.Office.{KeptStandsFor}
 use Rattle.office.specs.declared.answer.StartFault.{StartFault}
 use Rattle.notice_ledger.specs.Rows.{rows}
 use Rattle.notifyd.specs.declared.reply.Reply.{Reply}
 use Rattle.notifyd.specs.declared.ending.Ending.{Ending}
-use Rattle.notifyd.specs.declared.ending.Ending.TheVariants.{InputEnded, BadLine, SourceFault, TooLong, SinkFault, NotStarted}
+use Rattle.notifyd.specs.declared.ending.Ending.TheVariants.{InputEnded, BadLine, SourceFault, TooLong, SinkFault, NotStarted, Audited}
 use Rattle.notifyd.specs.declared.ending.Ended.{Ended}
 use Rattle.notifyd.specs.declared.ending.Met.{Met}
 use Rattle.notifyd.specs.Cut.{IsBadLine, cut_of, all_lines, last_line, allowed, max_script}
 use Rattle.notifyd.specs.World.{World, started}
 use Rattle.notifyd.specs.Play.{PlaysLines, answer_text, is_keeper_fault, is_out_of_memory}
 use Rattle.notifyd.specs.Ending.{last_text}
-use Rattle.notifyd.specs.Status.{KeptIsEmpty, KeptIsConsistent, KeptIsConserved}
-use Rattle.notifyd.specs.Run.{Devices, devices, Gave, IsAtEnd, Wrote, AreFirst, IsCourse, IsWithin, EndsAs, PlayedAs, IsUnstarted, PlayedUnwritten, SinkFailed, WentAs}
+use Rattle.notifyd.specs.Status.{KeptIsConsistent, KeptIsConserved}
+use Rattle.notifyd.specs.Run.{Devices, devices, Gave, IsAtEnd, Wrote, AreFirst, IsCourse, IsWithin, EndsAs, PlayedAs, IsUnstarted, PlayedUnwritten, SinkFailed, WentAs, RanAs, Tells}
 use Rattle.notifyd.specs.Playing.{Playing}
-use Rattle.notifyd.specs.Going.{Standing, standing, left_standing, Plays, Answers, FailsToAnswer, ComesToBadLine, EndsReading, EndedReading, source_seen}
+use Rattle.notifyd.specs.Going.{Standing, HasBegun, standing, left_standing, Plays, Answers, FailsToAnswer, ComesToBadLine, EndsReading, EndedReading, source_seen}
 use Rattle.notifyd.proofs.CutLemmas.{allowed-within, AreFirst-complete, AreFirst-all}
 use Rattle.notifyd.proofs.GoingLemmas.{Wrote-none, Wrote-then, EndsAmong-more}
 use Rattle.notifyd.proofs.ShownLemmas.{plays-shown, marks-read}
 
--- a play stands where a start leaves it
+-- a play stands where a start over what was kept leaves it
 record IsFresh (before : Devices) (a : Standing) : Type 0 where
-  pub world : a.world ≡ started
+  pub journal : List Stamped
+  pub stood : IfSome before.kept (KeptStandsFor journal)
+  pub world : a.world ≡ started journal
   pub keeper_fault : a.met.keeper_fault ≡ false
   pub out_of_memory : a.met.out_of_memory ≡ false
   pub number : a.number ≡ 0
@@ -47,8 +50,8 @@ record IsLast (b : Standing) (met : Met) (now : Devices) : Type 0 where
   pub written : now.written ≡ b.written
   pub sink : b.sink_faults ≡ now.sink_faults
 
-course_of : (before now : Devices) (a b : Standing) (taken : List ℕ) (lines : List (List ℕ)) (replies : List (Option Reply)) (met : Met) → IsFresh before a → IsLast b met now → KeptIsEmpty before.kept → Gave taken before.input now.input → AreFirst lines (all_lines (cut_of (allowed taken))) → Plays a lines replies b → IsCourse taken lines replies met before now
-course_of before now a b taken lines replies met fresh last empty gave first p =
+course_of : (before now : Devices) (a b : Standing) (taken : List ℕ) (lines : List (List ℕ)) (replies : List (Option Reply)) (met : Met) → IsFresh before a → IsLast b met now → Gave taken before.input now.input → AreFirst lines (all_lines (cut_of (allowed taken))) → Plays a lines replies b → IsCourse taken lines replies met before now
+course_of before now a b taken lines replies met fresh last gave first p =
     let P : World → Type 0 = λ w. PlaysLines w lines replies b.world in
     let played = subst P fresh.world p.played in
     let first_faults = fresh.faults in
@@ -56,12 +59,13 @@ course_of before now a b taken lines replies met fresh last empty gave first p =
     let risen = p.risen in
     let most = p.most in
     record {
-      was_empty = empty;
+      journal = fresh.journal;
+      stood = fresh.stood;
       gave = gave;
       first = first;
       after = b.world;
       played = played;
-      shown = plays-shown started lines replies b.world played;
+      shown = plays-shown (started fresh.journal) lines replies b.world played;
       marks = marks-read replies;
       keeper_fault = ap (λ (m : Met). m.keeper_fault) (sym last.all_met) ∙ p.keeper_fault ∙ ap (λ t. t || list_any is_keeper_fault replies) fresh.keeper_fault;
       out_of_memory = ap (λ (m : Met). m.out_of_memory) (sym last.all_met) ∙ p.out_of_memory ∙ ap (λ t. t || list_any is_out_of_memory replies) fresh.out_of_memory;
@@ -80,12 +84,12 @@ written_of : (before now : Devices) (a b : Standing) (met : Met) (text : List �
 written_of before now a b met text fresh last p = last.written ∙ p ∙ ap (option_map (λ done. done ++ text)) fresh.written
 
 -- a play that ended behind answered lines
-played_as : (ending : Ending) (before now : Devices) (a b : Standing) (taken : List ℕ) (lines : List (List ℕ)) (met : Met) → IsFresh before a → IsLast b met now → KeptIsEmpty before.kept → Gave taken before.input now.input → AreFirst lines (all_lines (cut_of (allowed taken))) → Answers a lines b → EndsAs ending taken lines now.input before.source_faults now.source_faults → PlayedAs ending [] met before now
-played_as ending before now a b taken lines met fresh last empty gave first p ends = record {
+played_as : (ending : Ending) (before now : Devices) (a b : Standing) (taken : List ℕ) (lines : List (List ℕ)) (met : Met) → IsFresh before a → IsLast b met now → Gave taken before.input now.input → AreFirst lines (all_lines (cut_of (allowed taken))) → Answers a lines b → EndsAs ending taken lines now.input before.source_faults now.source_faults → PlayedAs ending [] met before now
+played_as ending before now a b taken lines met fresh last gave first p ends = record {
   taken = taken;
   lines = lines;
   replies = p.replies;
-  course = course_of before now a b taken lines p.replies met fresh last empty gave first p.plays;
+  course = course_of before now a b taken lines p.replies met fresh last gave first p.plays;
   ends = ends;
   written = text_nil _ _ _ (written_of before now a b met (flat_map answer_text p.replies) fresh last p.written);
 }
@@ -112,13 +116,13 @@ before_bad a b all number column fresh p =
     let here : number - 1 ≡ length p.first = omega (arith, fresh, p.counted) in
     sym (ap (λ n. take n all) here ∙ ap (take (length p.first)) p.all ∙ take-append_seam p.first (p.bad ∷ p.more))
 
-played_to_bad : (before now : Devices) (a b : Standing) (taken : List ℕ) (met : Met) (number column : ℕ) → IsFresh before a → IsLast b met now → KeptIsEmpty before.kept → Gave taken before.input now.input → ComesToBadLine number column a (all_lines (cut_of (allowed taken))) b → (number ≤ length (cut_of (allowed taken)).lines) ⊎ (IsWithin taken × IsAtEnd now.input) → PlayedAs (BadLine number column) [] met before now
-played_to_bad before now a b taken met number column fresh last empty gave p whole =
-    played_as (BadLine number column) before now a b taken p.first met fresh last empty gave (record { more = p.bad ∷ p.more; all_are = p.all }) p.answers
+played_to_bad : (before now : Devices) (a b : Standing) (taken : List ℕ) (met : Met) (number column : ℕ) → IsFresh before a → IsLast b met now → Gave taken before.input now.input → ComesToBadLine number column a (all_lines (cut_of (allowed taken))) b → (number ≤ length (cut_of (allowed taken)).lines) ⊎ (IsWithin taken × IsAtEnd now.input) → PlayedAs (BadLine number column) [] met before now
+played_to_bad before now a b taken met number column fresh last gave p whole =
+    played_as (BadLine number column) before now a b taken p.first met fresh last gave (record { more = p.bad ∷ p.more; all_are = p.all }) p.answers
     (bad_of a b _ number column fresh.number p, before_bad a b _ number column fresh.number p, whole)
 
-unanswered : (before now : Devices) (a b : Standing) (taken : List ℕ) (met : Met) → IsFresh before a → IsLast b met now → KeptIsEmpty before.kept → Gave taken before.input now.input → FailsToAnswer a (all_lines (cut_of (allowed taken))) b → SinkFailed met before now
-unanswered before now a b taken met fresh last empty gave p =
+unanswered : (before now : Devices) (a b : Standing) (taken : List ℕ) (met : Met) → IsFresh before a → IsLast b met now → Gave taken before.input now.input → FailsToAnswer a (all_lines (cut_of (allowed taken))) b → SinkFailed met before now
+unanswered before now a b taken met fresh last gave p =
     let first_sink = fresh.sink in
     let last_sink = last.sink in
     let cause = p.cause in
@@ -128,7 +132,7 @@ unanswered before now a b taken met fresh last empty gave p =
         taken = taken;
         lines = p.first;
         replies = p.answered ++ p.reply ∷ [];
-        course = course_of before now a b taken p.first (p.answered ++ p.reply ∷ []) met fresh last empty gave (record { more = p.more; all_are = p.all }) p.plays;
+        course = course_of before now a b taken p.first (p.answered ++ p.reply ∷ []) met fresh last gave (record { more = p.more; all_are = p.all }) p.plays;
         answered = p.answered;
         text = answer_text p.reply;
         given = inl (p.reply, refl, refl);
@@ -142,56 +146,57 @@ bad_within : (number before : ℕ) (first more all : List (List ℕ)) (bad : Lis
 bad_within number before first more all bad fresh counted is = omega (arith, length-append first (bad ∷ more), ap length is)
 
 -- how a play went, from where reading ended it
-went_reading : (ending : Ending) (before now : Devices) (a b : Standing) (taken : List ℕ) (met : Met) → IsFresh before a → IsLast b met now → KeptIsEmpty before.kept → Gave taken before.input now.input → EndsReading ending a [] 0 taken now.input before.source_faults now.source_faults b → WentAs ending [] met before now
-went_reading InputEnded before now a b taken met fresh last empty gave p =
+went_reading : (ending : Ending) (before now : Devices) (a b : Standing) (taken : List ℕ) (met : Met) → IsFresh before a → IsLast b met now → Gave taken before.input now.input → EndsReading ending a [] 0 taken now.input before.source_faults now.source_faults b → WentAs ending [] met before now
+went_reading InputEnded before now a b taken met fresh last gave p =
     let within : length taken ≤ max_script = let h = p.0 in omega (arith, h) in
     let P : List ℕ → Type 0 = λ bytes. AreFirst (all_lines (cut_of taken)) (all_lines (cut_of bytes)) in
-    played_as InputEnded before now a b taken (all_lines (cut_of taken)) met fresh last empty gave (subst P (sym (allowed-within taken within)) (AreFirst-all _)) p.2 (within, p.1, refl)
-went_reading SourceFault before now a b taken met fresh last empty gave p =
+    played_as InputEnded before now a b taken (all_lines (cut_of taken)) met fresh last gave (subst P (sym (allowed-within taken within)) (AreFirst-all _)) p.2 (within, p.1, refl)
+went_reading SourceFault before now a b taken met fresh last gave p =
     let within : length taken ≤ max_script = let h = p.0 in omega (arith, h) in
     let P : List ℕ → Type 0 = λ bytes. AreFirst (cut_of taken).lines (all_lines (cut_of bytes)) in
-    played_as SourceFault before now a b taken (cut_of taken).lines met fresh last empty gave (subst P (sym (allowed-within taken within)) (AreFirst-complete (cut_of taken))) p.1 (within, refl, p.2)
-went_reading TooLong before now a b taken met fresh last empty gave p =
+    played_as SourceFault before now a b taken (cut_of taken).lines met fresh last gave (subst P (sym (allowed-within taken within)) (AreFirst-complete (cut_of taken))) p.1 (within, refl, p.2)
+went_reading TooLong before now a b taken met fresh last gave p =
     let more : max_script < length taken = let h = p.0 in omega (arith, h) in
-    played_as TooLong before now a b taken (cut_of (allowed taken)).lines met fresh last empty gave (AreFirst-complete (cut_of (allowed taken))) p.1 (more, refl)
-went_reading (BadLine number column) before now a b taken met fresh last empty gave p =
+    played_as TooLong before now a b taken (cut_of (allowed taken)).lines met fresh last gave (AreFirst-complete (cut_of (allowed taken))) p.1 (more, refl)
+went_reading (BadLine number column) before now a b taken met fresh last gave p =
     elim p [
-      | inl h ↦ played_to_bad before now a b taken met number column fresh last empty gave (EndsAmong-more (BadLine number column) a b (cut_of (allowed taken)).lines (last_line (cut_of (allowed taken)).rest) h) (inl (bad_within number a.number h.first h.more _ h.bad fresh.number h.counted h.all))
+      | inl h ↦ played_to_bad before now a b taken met number column fresh last gave (EndsAmong-more (BadLine number column) a b (cut_of (allowed taken)).lines (last_line (cut_of (allowed taken)).rest) h) (inl (bad_within number a.number h.first h.more _ h.bad fresh.number h.counted h.all))
       | inr h ↦ (
           let within : length taken ≤ max_script = let k = h.0 in omega (arith, k) in
           let P : List ℕ → Type 0 = λ bytes. ComesToBadLine number column a (all_lines (cut_of bytes)) b in
-          played_to_bad before now a b taken met number column fresh last empty gave (subst P (sym (allowed-within taken within)) h.2) (inr (within, h.1)))
+          played_to_bad before now a b taken met number column fresh last gave (subst P (sym (allowed-within taken within)) h.2) (inr (within, h.1)))
     ]
-went_reading SinkFault before now a b taken met fresh last empty gave p =
+went_reading SinkFault before now a b taken met fresh last gave p =
     elim p [
-      | inl h ↦ unanswered before now a b taken met fresh last empty gave (EndsAmong-more SinkFault a b (cut_of (allowed taken)).lines (last_line (cut_of (allowed taken)).rest) h)
+      | inl h ↦ unanswered before now a b taken met fresh last gave (EndsAmong-more SinkFault a b (cut_of (allowed taken)).lines (last_line (cut_of (allowed taken)).rest) h)
       | inr h ↦ (
           let within : length taken ≤ max_script = let k = h.0 in omega (arith, k) in
           let P : List ℕ → Type 0 = λ bytes. FailsToAnswer a (all_lines (cut_of bytes)) b in
-          unanswered before now a b taken met fresh last empty gave (subst P (sym (allowed-within taken within)) h.2))
+          unanswered before now a b taken met fresh last gave (subst P (sym (allowed-within taken within)) h.2))
     ]
-went_reading (NotStarted why) before now a b taken met fresh last empty gave p = elim p [ inl h ↦ absurd h | inr h ↦ absurd h.2 ]
+went_reading (NotStarted why) before now a b taken met fresh last gave p = elim p [ inl h ↦ absurd h | inr h ↦ absurd h.2 ]
+went_reading (Audited counts) before now a b taken met fresh last gave p = elim p [ inl h ↦ absurd h | inr h ↦ absurd h.2 ]
 
 -- how a play went, from its start and its end
 pub went_from : {K : Type 0} (kept : K → Option Kept) (faults : K → ℕ) (keeper : K) (play : Playing K) (ended : Ended K) (input now_input written now_written : Option (List ℕ)) (source_faults now_source_faults sink_faults now_sink_faults : ℕ)
-    → play ≡ record { world = started; met = record { keeper_fault = false; out_of_memory = false }; number = 0; taken = 0; under_way = []; keeper = play.keeper }
-    → KeptIsEmpty (kept keeper)
+    → HasBegun (kept keeper) play
     → is_some (kept play.keeper) ≡ is_some (kept keeper)
     → faults play.keeper ≡ faults keeper
     → EndedReading kept faults (standing kept faults play written sink_faults) play.under_way play.taken (source_seen input now_input source_faults now_source_faults) ended now_written now_sink_faults
     → WentAs ended.ending [] ended.met (devices input written (kept keeper) source_faults sink_faults (faults keeper)) (devices now_input now_written (kept ended.keeper) now_source_faults now_sink_faults (faults ended.keeper))
-went_from {K} kept faults keeper play ended input now_input written now_written source_faults now_source_faults sink_faults now_sink_faults begun_is empty tells same p =
+went_from {K} kept faults keeper play ended input now_input written now_written source_faults now_source_faults sink_faults now_sink_faults begins tells same p =
     let P : Playing K → Type 0 = λ it. EndedReading kept faults (standing kept faults it written sink_faults) it.under_way it.taken (source_seen input now_input source_faults now_source_faults) ended now_written now_sink_faults in
-    let q = subst P begun_is p in
+    let q = subst P begins.is p in
     went_reading ended.ending _ _ _ (left_standing kept faults ended q.left.world q.left.number now_written now_sink_faults) q.bytes ended.met
-    (record { world = refl; keeper_fault = refl; out_of_memory = refl; number = refl; tells = tells; faults = same; written = refl; sink = refl })
+    (record { journal = begins.journal; stood = begins.stood; world = refl; keeper_fault = refl; out_of_memory = refl; number = refl; tells = tells; faults = same; written = refl; sink = refl })
     (record { all_met = refl; kept = refl; stands = q.left.stands; conserved = q.left.conserved; faults = refl; written = refl; sink = refl })
-    empty q.gave q.ends
+    q.gave q.ends
 
 -- the last line changes nothing but what is written and the sink's count
 course_still : (taken : List ℕ) (lines : List (List ℕ)) (replies : List (Option Reply)) (met : Met) (before mid : Devices) (written : Option (List ℕ)) (sink : ℕ) → IsCourse taken lines replies met before mid → IsCourse taken lines replies met before (record mid { written = written; sink_faults = sink })
 course_still taken lines replies met before mid written sink p = record {
-  was_empty = p.was_empty;
+  journal = p.journal;
+  stood = p.stood;
   gave = p.gave;
   first = p.first;
   after = p.after;
@@ -213,7 +218,7 @@ unstarted_still why before mid written sink p = record {
   untried = p.untried;
   kept = p.kept;
   cause = p.cause;
-  not_empty = p.not_empty;
+  disagree = p.disagree;
   counted = p.counted;
   most = p.most;
 }
@@ -260,7 +265,7 @@ sink_still met before mid written sink counted wrote p =
     }
 
 -- the last line was written
-pub went_last : (ending : Ending) (met : Met) (before mid : Devices) (written : Option (List ℕ)) (sink : ℕ) → mid.sink_faults ≤ sink → Wrote (last_text ending) mid.written written → WentAs ending [] met before mid → WentAs ending (last_text ending) met before (record mid { written = written; sink_faults = sink })
+went_last : (ending : Ending) (met : Met) (before mid : Devices) (written : Option (List ℕ)) (sink : ℕ) → mid.sink_faults ≤ sink → Wrote (last_text ending) mid.written written → WentAs ending [] met before mid → WentAs ending (last_text ending) met before (record mid { written = written; sink_faults = sink })
 went_last (NotStarted why) met before mid written sink counted wrote p = record {
   unstarted = unstarted_still why before mid written sink p.unstarted;
   written = Wrote-then [] (last_text (NotStarted why)) _ _ _ p.written wrote;
@@ -287,7 +292,7 @@ no_front zero a b h p = p
 no_front (suc front) a b h p = absurd (omega (arith, h))
 
 -- the last line was not written whole
-pub went_unwritten : (ending : Ending) (met : Met) (before mid : Devices) (front : ℕ) (written : Option (List ℕ)) (sink : ℕ) → before.sink_faults ≤ mid.sink_faults → mid.sink_faults ≤ sink → HasRisen mid.sink_faults sink → front ≤ length (last_text ending) → Wrote (take front (last_text ending)) mid.written written → WentAs ending [] met before mid → SinkFailed met before (record mid { written = written; sink_faults = sink })
+went_unwritten : (ending : Ending) (met : Met) (before mid : Devices) (front : ℕ) (written : Option (List ℕ)) (sink : ℕ) → before.sink_faults ≤ mid.sink_faults → mid.sink_faults ≤ sink → HasRisen mid.sink_faults sink → front ≤ length (last_text ending) → Wrote (take front (last_text ending)) mid.written written → WentAs ending [] met before mid → SinkFailed met before (record mid { written = written; sink_faults = sink })
 went_unwritten (NotStarted why) met before mid front written sink counted still risen within wrote p = record {
   cause = omega (arith, counted, risen);
   went = inr (record {
@@ -302,13 +307,28 @@ went_unwritten ending met before mid front written sink counted still risen with
   went = inl (played_unwritten ending met before mid front written sink within wrote p);
 }
 
+-- how a run went, once its last line was told
+pub ran_told : (ending : Ending) (met : Met) (before mid : Devices) (written : Option (List ℕ)) (sink status : ℕ) → before.sink_faults ≤ mid.sink_faults → mid.sink_faults ≤ sink → Tells ending met mid.written mid.sink_faults written sink status → WentAs ending [] met before mid → RanAs before status (record mid { written = written; sink_faults = sink })
+ran_told ending met before mid written sink status counted still (inl h) p = record {
+  ending = ending;
+  met = met;
+  went = went_last ending met before mid written sink still h.0 p;
+  exit = h.1;
+}
+ran_told ending met before mid written sink status counted still (inr h) p = record {
+  ending = SinkFault;
+  met = met;
+  went = went_unwritten ending met before mid h.0.count written sink counted still h.1 h.0.within h.0.written p;
+  exit = h.2;
+}
+
 -- what is kept after a run: it stands for a journal and is conserved, and is told as before, or it is what was kept before
 pub record StandsStill (before now : Option Kept) : Type 0 where
   pub consistent : KeptIsConsistent before → KeptIsConsistent now
   pub conserved : KeptIsConserved before → KeptIsConserved now
   pub tells : is_some now ≡ is_some before
 
-still_same : (before now : Option Kept) → now ≡ before → StandsStill before now
+pub still_same : (before now : Option Kept) → now ≡ before → StandsStill before now
 still_same before now same = record {
   consistent = λ h. subst KeptIsConsistent (sym same) h;
   conserved = λ h. subst KeptIsConserved (sym same) h;

@@ -1,5 +1,5 @@
 -- Each step is shown: its line has one output line or none, and the line gives the mark.
-use Rattle.std.proofs.Common.{◌≡◌, ℕ, zero, suc, Bool, map, append_assoc, ◌+◌, ◌-◌, length, ◌/◌, ◌%◌, ◌==◌, true, false, ◌||◌, List, [], ◌∷◌, ◌++◌, Option, Some, None, refl, sym, ap, ◌∙◌, is_some, arith, nat_lt}
+use Rattle.std.proofs.Common.{◌≡◌, ℕ, zero, suc, Bool, map, append_assoc, ◌+◌, ◌-◌, length, ◌/◌, ◌%◌, ◌==◌, true, false, ◌||◌, List, [], ◌∷◌, ◌++◌, Option, Some, None, refl, sym, ap, ◌∙◌, is_some, arith, nat_lt, fold}
 use Rattle.std.specs.Prelude.{IfSome, IsTrue, if◌then◌else◌, codes, decimal, nat_le}
 use Rattle.std.specs.Fmt.{digits, digits_onto, digit_glyph}
 use Rattle.std.specs.List.{flat_map}
@@ -8,7 +8,7 @@ use Rattle.std.proofs.lemmas.Bool.{ne_eqb}
 use Rattle.chat_model.specs.declared.counts.Counts.{Counts}
 use Rattle.chat_model.specs.declared.request.Request.{Request}
 use Rattle.chat_model.specs.declared.request.Refusal.{Refusal}
-use Rattle.chat_model.specs.declared.request.Refusal.TheVariants.{TooMany}
+use Rattle.chat_model.specs.declared.request.Refusal.TheVariants.{NoUser, BadEventId, TooMany}
 use Rattle.chat_model.specs.declared.request.Answer.TheVariants.{User, Group, Channel, Sent, Done}
 use Rattle.office.specs.declared.answer.MailAnswer.TheVariants.{Mailed, NotDue}
 use Rattle.chat_model.specs.declared.event.Event.TheVariants as event
@@ -23,6 +23,19 @@ use Rattle.notifyd.specs.Mark.{Mark, step, may_want_memory, adds_event, MayHave,
 use Rattle.notifyd.specs.Mark.Mark.{Clean, NoMemory, KeeperFault}
 use Rattle.notifyd.specs.Play.{IsStep, PlaysLines, answer_text}
 use Rattle.notifyd.specs.Shown.{has_output, has_line_feed, IsOneLine, GivesMark, IsShown, AreShown, lines_after, mark_given, marks_given, marks_of}
+use Rattle.chat_model.specs.declared.deal.Deal.{Deal}
+use Rattle.chat_model.specs.declared.deal.UserVerdict.{UserVerdict}
+use Rattle.chat_model.specs.declared.deal.Verdict.{Verdict}
+use Rattle.chat_model.specs.declared.deal.Verdict.TheVariants.{Idle, Live}
+use Rattle.chat_model.specs.declared.ids.UserId.{UserId}
+use Rattle.notice_ledger.specs.Deals.{deal, knows}
+use Rattle.presence_queues.specs.Hub.{QueueSeen, queue_at, overdue_user}
+use Rattle.presence_queues.specs.Steps.{acked, left_items, item_of}
+use Rattle.presence_queues.specs.declared.answer.QueueItem.{QueueItem}
+use Rattle.presence_queues.specs.declared.answer.SweepAnswer.TheVariants.{Ended, NoneOverdue}
+use Rattle.notifyd.specs.Pieces.{rest_text, list_text, item_text, verdict_word, verdict_text}
+use Rattle.notifyd.specs.HubWords.{queue_words, items_words, sweep_words, dealt_words}
+use Rattle.notifyd.specs.HubStep.{stays, steps_to, register_step, beat_step, is_past_next, acked_step, left_step, swept_step, dealt_step}
 use Rattle.notifyd.specs.declared.line.Line.{Line}
 use Rattle.notifyd.specs.declared.line.Line.TheVariants as line
 use Rattle.notifyd.specs.declared.reply.Reply.{Reply}
@@ -78,12 +91,32 @@ counts_plain c =
     with_number waiting (codes " written=") c.written (with_number entries (codes " waiting=") c.waiting (with_number accounts (codes " entries=") c.entries (accounts_plain c) refl) refl) refl
 
 limit_plain : (refused : Refusal) → has_line_feed (limit_words refused) ≡ false
+limit_plain (BadEventId next) = decimal_plain next
 limit_plain (TooMany limit) = decimal_plain limit
 limit_plain _ = refl
 
 refusal_plain : (refused : Refusal) → has_line_feed (refusal_words refused) ≡ false
 refusal_plain refused =
     join (codes "refused " ++ decimal (refusal_number refused)) (limit_words refused) (decimal_plain (refusal_number refused)) (limit_plain refused)
+
+-- texts without line feeds, one after another
+texts_plain : {X : Type 0} (text : X → List ℕ) → ((x : X) → has_line_feed (text x) ≡ false) → (begun : List ℕ) → has_line_feed begun ≡ false → (xs : List X) → has_line_feed (fold (λ before x. before ++ text x) begun xs) ≡ false
+texts_plain text plain begun h [] = h
+texts_plain text plain begun h (x ∷ xs) = texts_plain text plain (begun ++ text x) (join begun (text x) h (plain x)) xs
+
+list_plain : {X : Type 0} (text : X → List ℕ) → ((x : X) → has_line_feed (text x) ≡ false) → (xs : List X) → has_line_feed (list_text text xs) ≡ false
+list_plain text plain [] = refl
+list_plain text plain (x ∷ xs) = join (text x) (rest_text text xs) (plain x) (texts_plain (λ y. codes "," ++ text y) (λ y. join (codes ",") (text y) refl (plain y)) [] refl xs)
+
+item_plain : (item : QueueItem) → has_line_feed (item_text item) ≡ false
+item_plain item = with_number (decimal item.event) (codes "=") item.message.0 (decimal_plain item.event) refl
+
+verdict_plain : (given : UserVerdict) → has_line_feed (verdict_text given) ≡ false
+verdict_plain given = join (decimal given.user.0 ++ codes "=") (verdict_word given.verdict) (join (decimal given.user.0) (codes "=") (decimal_plain given.user.0) refl) (by given.verdict)
+  where
+    by : (v : Verdict) → has_line_feed (verdict_word v) ≡ false
+    by Idle = refl
+    by Live = refl
 
 one_line : (text words : List ℕ) → text ≡ words ++ 10 ∷ [] → has_line_feed words ≡ false → IsOneLine text
 one_line text words e h = record { words = words; ended = e; single = h }
@@ -98,6 +131,13 @@ gives-mark (reply.Mail (Mailed user entries dropped)) = record { one_line = one_
 gives-mark (reply.Mail (NotDue (Some moment))) = record { one_line = one_line _ (mail_words (NotDue (Some moment))) refl (decimal_plain moment); mark = refl }
 gives-mark (reply.Mail (NotDue None)) = record { one_line = one_line _ (mail_words (NotDue None)) refl refl; mark = refl }
 gives-mark (reply.Audit counts) = record { one_line = one_line _ (count_words counts) refl (counts_plain counts); mark = refl }
+gives-mark (reply.Queue queue) = record { one_line = one_line _ (queue_words queue) refl (with_number (codes "queue " ++ decimal queue.run) (codes ":") queue.number (decimal_plain queue.run) refl); mark = refl }
+gives-mark (reply.Items items) = record { one_line = one_line _ (items_words items) refl (list_plain item_text item_plain items); mark = refl }
+gives-mark (reply.Sweep (Ended user queues)) = record { one_line = one_line _ (sweep_words (Ended user queues)) refl (with_number (codes "ended " ++ decimal user.0) (codes " queues=") queues (decimal_plain user.0) refl); mark = refl }
+gives-mark (reply.Sweep (NoneOverdue (Some moment))) = record { one_line = one_line _ (sweep_words (NoneOverdue (Some moment))) refl (decimal_plain moment); mark = refl }
+gives-mark (reply.Sweep (NoneOverdue None)) = record { one_line = one_line _ (sweep_words (NoneOverdue None)) refl refl; mark = refl }
+gives-mark (reply.Dealt deal verdicts) = record { one_line = one_line _ (dealt_words deal verdicts) refl (join (codes "dealt " ++ decimal deal.0 ++ codes " ") (list_text verdict_text verdicts) (join (codes "dealt " ++ decimal deal.0) (codes " ") (decimal_plain deal.0) refl) (list_plain verdict_text verdict_plain verdicts)); mark = refl }
+gives-mark reply.NoDeal = record { one_line = one_line _ (codes "no deal") refl refl; mark = refl }
 gives-mark (reply.Refused refused) = record { one_line = one_line _ (refusal_words refused) refl (refusal_plain refused); mark = refl }
 gives-mark reply.KeeperFault = record { one_line = one_line _ (codes "fault keeper") refl refl; mark = refl }
 gives-mark reply.OutOfMemory = record { one_line = one_line _ (codes "out of memory") refl refl; mark = refl }
@@ -114,6 +154,30 @@ mailed_answered (Some d) w =
       | false ↦ refl
     ]
 
+known_answered : (b : Bool) (w : World) (known : Step) → is_some known.reply ≡ true → is_some (Step.reply (if b then known else stays w (reply.Refused NoUser))) ≡ true
+known_answered true w known h = h
+known_answered false w known h = refl
+
+acked_answered : (o : Option QueueSeen) (w : World) (u : UserId) (upto : Option ℕ) → is_some (acked_step o w u upto).reply ≡ true
+acked_answered None w u upto = refl
+acked_answered (Some q) w u upto = by (is_past_next upto q)
+  where
+    by : (b : Bool) → is_some (Step.reply (if b then stays w (reply.Refused (BadEventId q.next)) else steps_to w (acked u q upto w.clock w.hub) (reply.Items (map item_of (left_items upto q))))) ≡ true
+    by true = refl
+    by false = refl
+
+left_answered : (o : Option QueueSeen) (w : World) (u : UserId) → is_some (left_step o w u).reply ≡ true
+left_answered None w u = refl
+left_answered (Some q) w u = refl
+
+swept_answered : (o : Option ℕ) (w : World) → is_some (swept_step o w).reply ≡ true
+swept_answered None w = refl
+swept_answered (Some n) w = refl
+
+dealt_answered : (o : Option Deal) (w : World) → is_some (dealt_step o w).reply ≡ true
+dealt_answered None w = refl
+dealt_answered (Some d) w = refl
+
 -- where nothing fails a step has a reply where its line has an output line
 clean_answered : (w : World) (l : Line) → is_some (clean_step w l).reply ≡ has_output l
 clean_answered w line.Nothing = refl
@@ -121,6 +185,12 @@ clean_answered w (line.At moment) = refl
 clean_answered w (line.Asked request) = asked_answered (refusal w.journal request) w request
 clean_answered w line.Mail = mailed_answered (first_due w.journal) w
 clean_answered w line.Audit = refl
+clean_answered w (line.Register user) = known_answered (knows w.journal user) w (register_step w user) refl
+clean_answered w (line.Beat user) = known_answered (knows w.journal user) w (beat_step w user) refl
+clean_answered w (line.Ack user queue upto) = known_answered (knows w.journal user) w (acked_step (queue_at w.hub user queue) w user upto) (acked_answered (queue_at w.hub user queue) w user upto)
+clean_answered w (line.Leave user queue) = known_answered (knows w.journal user) w (left_step (queue_at w.hub user queue) w user) (left_answered (queue_at w.hub user queue) w user)
+clean_answered w line.Sweep = swept_answered (overdue_user w.hub w.clock) w
+clean_answered w line.Deal = dealt_answered (deal w.journal w.hub.next) w
 
 -- a line that may want memory has an output line
 wanting_answered : (w : World) (l : Line) → IsTrue (may_want_memory w l) → true ≡ has_output l

@@ -1,8 +1,9 @@
 -- The fields of a line, and the forms that they may have. A place in a line is the number of bytes before it.
 -- A field is read at a place. It gives its value and the place behind it, or the column at which the line is bad.
-use Rattle.std.specs.Prelude.{ℕ, ◌+◌, ◌^◌, ◌==◌, ◌&&◌, ◌||◌, not, Bool, true, false, List, [], ◌∷◌, length, drop, slice_index, slice_range, nat_lt, nat_le, if◌then◌else◌, Option, Some, None, Result, Ok, Err, codes, bytes_eq, map, option_and_then}
+use Rattle.std.specs.Prelude.{ℕ, ◌+◌, ◌^◌, ◌==◌, ◌&&◌, ◌||◌, not, Bool, true, false, List, [], ◌∷◌, length, take, drop, slice_index, slice_range, nat_lt, nat_le, if◌then◌else◌, Option, Some, None, Result, Ok, Err, codes, bytes_eq, map, option_and_then}
 use Rattle.std.specs.Option.{option_map, ok_or}
 use Rattle.std.specs.List.{prefix_len, list_all, slice_split}
+use Rattle.chat_model.specs.declared.deal.QueueId.{QueueId}
 use Rattle.chat_model.specs.Number.{decimal_value, is_number, number_of}
 
 -- bytes counted from 1: the column of a place
@@ -16,6 +17,10 @@ is_space byte = byte == 32
 -- a byte that is no space
 abbrev pub is_no_space : ℕ → Bool
 is_no_space byte = not (byte == 32)
+
+-- a byte that is no colon
+abbrev pub is_no_colon : ℕ → Bool
+is_no_colon byte = not (byte == 58)
 
 -- the first place from this one on whose byte doesn't pass the test, else the end of the line
 unfoldable pub run_end : (ℕ → Bool) → List ℕ → ℕ → ℕ
@@ -59,6 +64,17 @@ moment_of word = option_and_then (λ value. if nat_lt value (2 ^ 37) then Some v
 unfoldable pub switch_of : List ℕ → Option Bool
 switch_of word =
     if bytes_eq word (codes "on") then Some true else (if bytes_eq word (codes "off") then Some false else None)
+
+-- run and number of a queue, with a colon between them
+unfoldable pub queue_of : List ℕ → Option QueueId
+queue_of word =
+    let colon = run_end is_no_colon word 0 in
+    if colon == length word then None
+    else option_and_then (λ run. option_map (λ number. record { run = run; number = number }) (number_of (drop (colon + 1) word))) (number_of (take colon word))
+
+-- a number, or `none`
+unfoldable pub upto_of : List ℕ → Option (Option ℕ)
+upto_of word = if bytes_eq word (codes "none") then Some None else option_map Some (number_of word)
 
 -- a byte that may stand behind a backslash: a quote, a backslash, or `n` for a line feed
 abbrev pub is_escape : ℕ → Bool

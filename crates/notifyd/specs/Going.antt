@@ -2,11 +2,13 @@
 use Rattle.std.specs.Prelude.{◌≡◌, ℕ, ◌+◌, ◌-◌, ◌<◌, ◌≤◌, ◌||◌, ◌⊎◌, List, [], ◌∷◌, ◌++◌, length, take, count_by, Option, IfSome, is_some, Err}
 use Rattle.std.specs.List.{list_any, flat_map}
 use Rattle.chat_model.specs.Counts.{HasRisen}
+use Rattle.chat_model.specs.declared.event.Stamped.{Stamped}
 use Rattle.keeper.specs.declared.keeper.Kept.{Kept}
 use Rattle.office.specs.Office.{KeptStandsFor}
 use Rattle.notifyd.specs.Grammar.{reading}
 use Rattle.notifyd.specs.Cut.{max_script, begun, cut_on, all_lines, last_line}
-use Rattle.notifyd.specs.World.{World}
+use Rattle.notifyd.specs.World.{World, started}
+use Rattle.notifyd.specs.Ending.{nothing_met}
 use Rattle.notifyd.specs.Play.{PlaysLines, HaveRisen, answer_text, is_keeper_fault, is_out_of_memory}
 use Rattle.notifyd.specs.Status.{KeptIsConserved}
 use Rattle.notifyd.specs.Run.{Gave, IsAtEnd, Wrote}
@@ -40,6 +42,19 @@ standing kept faults play written sink_faults = record {
   written = written;
   sink_faults = sink_faults;
 }
+
+-- a play begins over a journal, for which what was kept stood, where that is told: nothing was met, read or played
+pub record HasBegun {K : Type 0} (kept : Option Kept) (play : Playing K) : Type 0 where
+  pub journal : List Stamped
+  pub stood : IfSome kept (KeptStandsFor journal)
+  pub is : play ≡ record {
+    world = started journal;
+    met = nothing_met;
+    number = 0;
+    taken = 0;
+    under_way = [];
+    keeper = play.keeper;
+  }
 
 -- lines are played one after another, with these replies: what was met is met still, and the keeper's count rose by as
 -- many as the replies that are its faults

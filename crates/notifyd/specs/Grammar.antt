@@ -5,8 +5,8 @@ use Rattle.std.specs.Str.Lossy.{utf8_valid_len}
 use Rattle.chat_model.specs.declared.request.Request.TheVariants.{AddUser, AddGroup, Member, AddChannel, Subscribe, Send}
 use Rattle.chat_model.specs.Number.{number_of}
 use Rattle.notifyd.specs.declared.line.Line.{Line}
-use Rattle.notifyd.specs.declared.line.Line.TheVariants.{Nothing, At, Asked, Mail, Audit}
-use Rattle.notifyd.specs.Field.{column_of, is_space, field_start, word_end, word_at, word_field, moment_of, switch_of, list_of, string_field, line_end}
+use Rattle.notifyd.specs.declared.line.Line.TheVariants.{Nothing, At, Asked, Mail, Audit, Register, Beat, Ack, Leave, Sweep, Deal}
+use Rattle.notifyd.specs.Field.{column_of, is_space, field_start, word_end, word_at, word_field, moment_of, switch_of, queue_of, upto_of, list_of, string_field, line_end}
 use Rattle.notifyd.specs.Listed.{users_of}
 
 -- what a part of a line reads as, or the column at which the line is bad
@@ -85,7 +85,64 @@ audit_line line place = do
   end ← line_end line place
   Ok Audit
 
--- a line that is no request: its first word says which fields follow, and another first word is a bad field
+-- `register ID`
+unfoldable pub register_line : List ℕ → ℕ → Result Line ℕ
+register_line line place = do
+  user ← word_field number_of line place
+  end ← line_end line user.1
+  Ok (Register (record { 0 = user.0 }))
+
+-- `beat ID`
+unfoldable pub beat_line : List ℕ → ℕ → Result Line ℕ
+beat_line line place = do
+  user ← word_field number_of line place
+  end ← line_end line user.1
+  Ok (Beat (record { 0 = user.0 }))
+
+-- `ack ID QUEUE UPTO`
+unfoldable pub ack_line : List ℕ → ℕ → Result Line ℕ
+ack_line line place = do
+  user ← word_field number_of line place
+  queue ← word_field queue_of line user.1
+  upto ← word_field upto_of line queue.1
+  end ← line_end line upto.1
+  Ok (Ack (record { 0 = user.0 }) queue.0 upto.0)
+
+-- `leave ID QUEUE`
+unfoldable pub leave_line : List ℕ → ℕ → Result Line ℕ
+leave_line line place = do
+  user ← word_field number_of line place
+  queue ← word_field queue_of line user.1
+  end ← line_end line queue.1
+  Ok (Leave (record { 0 = user.0 }) queue.0)
+
+-- `sweep`
+unfoldable pub sweep_line : List ℕ → ℕ → Result Line ℕ
+sweep_line line place = do
+  end ← line_end line place
+  Ok Sweep
+
+-- `deal`
+unfoldable pub deal_line : List ℕ → ℕ → Result Line ℕ
+deal_line line place = do
+  end ← line_end line place
+  Ok Deal
+
+-- a line of the hub: its first word says which fields follow, and another first word is a bad field
+unfoldable pub hub_reading : List ℕ → Result Line ℕ
+hub_reading line =
+    let start = field_start line 0 in
+    let word = word_at line start in
+    let place = word_end line start in
+    if bytes_eq word (codes "register") then register_line line place
+    else (if bytes_eq word (codes "beat") then beat_line line place
+    else (if bytes_eq word (codes "ack") then ack_line line place
+    else (if bytes_eq word (codes "leave") then leave_line line place
+    else (if bytes_eq word (codes "sweep") then sweep_line line place
+    else (if bytes_eq word (codes "deal") then deal_line line place
+    else Err (column_of start))))))
+
+-- a line that is no request: its first word says which fields follow, or else it is one of the hub
 unfoldable pub step_reading : List ℕ → Result Line ℕ
 step_reading line =
     let start = field_start line 0 in
@@ -94,7 +151,7 @@ step_reading line =
     if bytes_eq word (codes "at") then at_line line place
     else (if bytes_eq word (codes "mail") then mail_line line place
     else (if bytes_eq word (codes "audit") then audit_line line place
-    else Err (column_of start)))
+    else hub_reading line))
 
 -- a line of fields: a request by its first word, which says which fields follow, or else another step
 unfoldable pub fields_reading : List ℕ → Result Line ℕ

@@ -2,8 +2,10 @@ pub mod Count
 pub mod Device
 pub mod MemoryDevices
 pub mod Sink
+pub mod Pieces
 pub mod Parts
 pub mod Words
+pub mod HubWords
 pub mod Reply
 pub mod LastLine
 pub mod Field
@@ -13,6 +15,8 @@ pub mod Grammar
 pub mod Fault
 pub mod Cut
 pub mod World
+pub mod Stepped
+pub mod HubStep
 pub mod Step
 pub mod Mark
 pub mod Play

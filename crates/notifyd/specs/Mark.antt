@@ -5,6 +5,7 @@ use Rattle.notice_ledger.specs.Refusals.{refusal}
 use Rattle.notice_ledger.specs.Due.{first_due}
 use Rattle.notifyd.specs.World.{World, stamp_now}
 use Rattle.notifyd.specs.Step.{Step, clean_step}
+use Rattle.notifyd.specs.HubStep.{hub_may_want_memory}
 use Rattle.notifyd.specs.declared.line.Line.{Line}
 use Rattle.notifyd.specs.declared.line.Line.TheVariants as line
 use Rattle.notifyd.specs.declared.reply.Reply.{Reply}
@@ -26,11 +27,11 @@ step w l KeeperFault = record { after = w; reply = Some reply.KeeperFault }
 abbrev pub is_due : World → Bool
 is_due w = option_map_or (λ d. nat_le d.due (stamp_now w)) (first_due w.journal) false
 
--- a line that may want memory in this world: a request, and a mail turn that is due
+-- a line that may want memory in this world: a request, a mail turn that is due, and lines of the hub
 abbrev pub may_want_memory : World → Line → Bool
 may_want_memory w (line.Asked request) = true
 may_want_memory w line.Mail = is_due w
-may_want_memory w _ = false
+may_want_memory w l = hub_may_want_memory w l
 
 -- a line that would add an event: a request that is not refused, and a mail turn that is due
 abbrev pub adds_event : World → Line → Bool

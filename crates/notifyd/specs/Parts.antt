@@ -1,13 +1,16 @@
 -- The parts of a line, and their text.
-use Rattle.std.specs.Prelude.{ℕ, List, [], ◌++◌, fold, decimal}
+use Rattle.std.specs.Prelude.{ℕ, List, decimal}
+use Rattle.notifyd.specs.Pieces.{texts_of, list_text, item_text, verdict_text}
 use Rattle.notifyd.specs.declared.words.Part.{Part}
-use Rattle.notifyd.specs.declared.words.Part.TheVariants.{Word, Number}
+use Rattle.notifyd.specs.declared.words.Part.TheVariants.{Word, Number, Items, Verdicts}
 
 -- the text of a part
 abbrev pub part_text : Part → List ℕ
 part_text (Word word) = word.now
 part_text (Number number) = decimal number
+part_text (Items items) = list_text item_text items.now
+part_text (Verdicts verdicts) = list_text verdict_text verdicts.now
 
 -- the text of parts, one after another
 abbrev pub parts_text : List Part → List ℕ
-parts_text parts = fold (λ text part. text ++ part_text part) [] parts
+parts_text parts = texts_of part_text parts

@@ -1,15 +1,20 @@
--- How a run of `play` went, by its ending: what was read, played, written and kept.
-use Rattle.std.specs.Prelude.{◌≡◌, ℕ, ◌+◌, ◌-◌, ◌<◌, ◌≤◌, List, [], ◌∷◌, ◌++◌, length, take, count_by, Option, Some, IfSome, IsSome, IsOk, is_some, option_map, ◌⊎◌}
+-- How a run went, by its ending: what was read, played, written and kept.
+use Rattle.std.specs.Prelude.{◌≡◌, ◌≢◌, ℕ, ◌+◌, ◌-◌, ◌<◌, ◌≤◌, List, [], ◌∷◌, ◌++◌, length, take, count_by, Option, Some, IfSome, IsSome, IsOk, is_some, option_map, ◌⊎◌}
 use Rattle.std.specs.List.{list_any, flat_map, AllByRecursion}
 use Rattle.chat_model.specs.Counts.{HasRisen}
+use Rattle.chat_model.specs.declared.counts.Counts.{Counts}
+use Rattle.chat_model.specs.declared.event.Stamped.{Stamped}
+use Rattle.chat_model.specs.declared.row.Row.{Row}
+use Rattle.notice_ledger.specs.Audit.{counts_of}
+use Rattle.notice_ledger.specs.Rows.{rows}
 use Rattle.keeper.specs.declared.keeper.Kept.{Kept}
 use Rattle.office.specs.declared.answer.StartFault.{StartFault}
-use Rattle.office.specs.declared.answer.StartFault.TheVariants.{KeeperFault, NotEmpty}
+use Rattle.office.specs.declared.answer.StartFault.TheVariants.{KeeperFault, Disagree}
 use Rattle.office.specs.Faults.{faults_in_start}
-use Rattle.office.specs.Office.{KeptStandsFor}
+use Rattle.office.specs.Office.{KeptStandsFor, HasDisagreed}
 use Rattle.notifyd.specs.declared.reply.Reply.{Reply}
 use Rattle.notifyd.specs.declared.ending.Ending.{Ending}
-use Rattle.notifyd.specs.declared.ending.Ending.TheVariants.{InputEnded, BadLine, SourceFault, TooLong, SinkFault, NotStarted}
+use Rattle.notifyd.specs.declared.ending.Ending.TheVariants.{InputEnded, BadLine, SourceFault, TooLong, SinkFault, NotStarted, Audited}
 use Rattle.notifyd.specs.declared.ending.Met.{Met}
 use Rattle.notifyd.specs.Sink.{WritesFront}
 use Rattle.notifyd.specs.Grammar.{reading}
@@ -17,8 +22,8 @@ use Rattle.notifyd.specs.Cut.{IsBadLine, max_script, cut_of, all_lines, allowed}
 use Rattle.notifyd.specs.World.{World, started}
 use Rattle.notifyd.specs.Play.{PlaysLines, HaveRisen, answer_text, is_keeper_fault, is_out_of_memory}
 use Rattle.notifyd.specs.Shown.{AreShown, marks_given, marks_of}
-use Rattle.notifyd.specs.Ending.{last_text, status_of}
-use Rattle.notifyd.specs.Status.{status_number, KeptIsEmpty, KeptIsConserved}
+use Rattle.notifyd.specs.Ending.{last_text, nothing_met, status_of}
+use Rattle.notifyd.specs.Status.{status_number, KeptIsConsistent, KeptIsConserved}
 
 -- what the devices of a run tell, the bytes to come, the bytes written and what is kept, and how often each failed
 pub record Devices : Type 0 where
@@ -56,16 +61,18 @@ pub record AreFirst (lines all : List (List ℕ)) : Type 0 where
   pub more : List (List ℕ)
   pub all_are : all ≡ lines ++ more
 
--- the office was started over an empty keeper; the source gave these bytes, and lines of them, the first of those that
--- the bytes within the limit give, were played from the start on with these replies, whose marks are read off the text
--- that they give, and which say what was met; what is kept stands for the journal of the world after them, and the
--- keeper's count rose by as many as the replies that are its faults, and by no more
+-- the office was started over a journal, for which what was kept stood, where the keeper tells; the source gave these
+-- bytes, and lines of them, the first of those that the bytes within the limit give, were played from the start on with
+-- these replies, whose marks are read off the text that they give, and which say what was met; what is kept stands for
+-- the journal of the world after them, and the keeper's count rose by as many as the replies that are its faults, and by
+-- no more
 pub record IsCourse (taken : List ℕ) (lines : List (List ℕ)) (replies : List (Option Reply)) (met : Met) (before now : Devices) : Type 0 where
-  pub was_empty : KeptIsEmpty before.kept
+  pub journal : List Stamped
+  pub stood : IfSome before.kept (KeptStandsFor journal)
   pub gave : Gave taken before.input now.input
   pub first : AreFirst lines (all_lines (cut_of (allowed taken)))
   pub after : World
-  pub played : PlaysLines started lines replies after
+  pub played : PlaysLines (started journal) lines replies after
   pub shown : AreShown lines replies
   pub marks : marks_given (flat_map answer_text replies) ≡ marks_of replies
   pub keeper_fault : met.keeper_fault ≡ list_any is_keeper_fault replies
@@ -105,13 +112,14 @@ pub record PlayedAs (ending : Ending) (last : List ℕ) (met : Met) (before now 
   pub ends : EndsAs ending taken lines now.input before.source_faults now.source_faults
   pub written : Wrote (flat_map answer_text replies ++ last) before.written now.written
 
--- the office was not started: nothing was read, what is kept stays, and the count says why
+-- the office was not started, or the counts were not made: nothing was read, what is kept stays, and the keeper's count
+-- or the first row that differs from the replay says why
 pub record IsUnstarted (why : StartFault) (before now : Devices) : Type 0 where
   pub unread : now.input ≡ before.input
   pub untried : now.source_faults ≡ before.source_faults
   pub kept : now.kept ≡ before.kept
   pub cause : why ≡ KeeperFault → HasRisen before.keeper_faults now.keeper_faults
-  pub not_empty : why ≡ NotEmpty → IfSome before.kept (λ kept. 0 < length kept.journal + length kept.rows)
+  pub disagree : (kept replayed : Option Row) → why ≡ Disagree kept replayed → HasDisagreed before.kept kept replayed
   pub counted : before.keeper_faults ≤ now.keeper_faults
   pub most : now.keeper_faults ≤ before.keeper_faults + faults_in_start why
 
@@ -164,13 +172,46 @@ pub record RanAs (before : Devices) (status : ℕ) (now : Devices) : Type 0 wher
   pub went : WentAs ending (last_text ending) met before now
   pub exit : status ≡ status_number (status_of ending met)
 
--- a status that is a fault's comes only where that count rose, and the one of a start over something only where
--- something was kept
+-- the counts are those of a journal, for which what is kept stands, where the keeper tells
+pub record HasCounted (counts : Counts) (kept : Option Kept) : Type 0 where
+  pub journal : List Stamped
+  pub stands : IfSome kept (KeptStandsFor journal)
+  pub counts_are : counts ≡ counts_of journal
+
+-- what is kept was counted: nothing was read, what is kept stays, and the keeper did not fail
+pub record IsAudited (counts : Counts) (before now : Devices) : Type 0 where
+  pub counted : HasCounted counts before.kept
+  pub unread : now.input ≡ before.input
+  pub untried : now.source_faults ≡ before.source_faults
+  pub kept : now.kept ≡ before.kept
+  pub unfailed : now.keeper_faults ≡ before.keeper_faults
+
+-- how an audit came out: with the counts, or without them
+abbrev pub CameOut : Ending → Devices → Devices → Type 0
+CameOut (Audited counts) before now = IsAudited counts before now
+CameOut (NotStarted why) before now = IsUnstarted why before now
+CameOut _ before now = ⊥
+
+-- the last line of a run that ended so was written, and the status is that of the ending and of what was met; or only a
+-- front of it was written, the sink's count rose, and the status is the sink's
+abbrev pub Tells : Ending → Met → Option (List ℕ) → ℕ → Option (List ℕ) → ℕ → ℕ → Type 0
+Tells ending met before faults now now_faults status =
+    (Wrote (last_text ending) before now × (status ≡ status_number (status_of ending met)))
+    ⊎ (WritesFront (last_text ending) before now × HasRisen faults now_faults × (status ≡ 4))
+
+-- how a run of `audit` went
+pub record AuditedAs (before : Devices) (status : ℕ) (now : Devices) : Type 0 where
+  pub ending : Ending
+  pub came : CameOut ending before now
+  pub tells : Tells ending nothing_met before.written before.sink_faults now.written now.sink_faults status
+
+-- a status that is a fault's comes only where that count rose, and the one of rows that differ only where they do, where
+-- the keeper tells
 pub record HasCause (status : ℕ) (before now : Devices) : Type 0 where
   pub source : status ≡ 3 → HasRisen before.source_faults now.source_faults
   pub sink : status ≡ 4 → HasRisen before.sink_faults now.sink_faults
   pub keeper : status ≡ 5 → HasRisen before.keeper_faults now.keeper_faults
-  pub kept : status ≡ 8 → IfSome before.kept (λ kept. 0 < length kept.journal + length kept.rows)
+  pub kept : status ≡ 8 → IfSome before.kept (λ kept. kept.rows ≢ rows kept.journal)
 
 -- no count of faults fell since
 pub record HaveNotFallen (before now : Devices) : Type 0 where
@@ -189,11 +230,15 @@ pub record NoneFailed (before now : Devices) : Type 0 where
   pub sink : ¬ HasRisen before.sink_faults now.sink_faults
   pub keeper : ¬ HasRisen before.keeper_faults now.keeper_faults
 
--- the source tells a readable script, the keeper tells that it keeps nothing, and none of the three failed since
+-- the keeper tells, and what it keeps is what a journal gives; nothing is one such
+pub record KeepsWell (kept : Option Kept) : Type 0 where
+  pub tells : IsSome kept
+  pub consistent : KeptIsConsistent kept
+
+-- the source tells a readable script, the keeper tells rows that are those of its journal, and none of the three failed
 pub record GoesWell (before now : Devices) : Type 0 where
   pub script : List ℕ
   pub tells : before.input ≡ Some script
   pub readable : IsReadable script
-  pub keeper_tells : IsSome before.kept
-  pub empty : KeptIsEmpty before.kept
+  pub keeps : KeepsWell before.kept
   pub none_failed : NoneFailed before now

@@ -11,15 +11,14 @@ use Rattle.notice_ledger.specs.Audit.{counts_of}
 use Rattle.office.specs.declared.answer.MailAnswer.TheVariants.{Mailed, NotDue}
 use Rattle.office.specs.Office.{answer_of}
 use Rattle.notifyd.specs.World.{World, world, stamp_now, with_event}
+pub use Rattle.notifyd.specs.Stepped.{Step}
+use Rattle.notifyd.specs.HubStep.{for_known, register_step, beat_step, acked_step, left_step, swept_step, dealt_step}
+use Rattle.presence_queues.specs.Hub.{queue_at, overdue_user}
+use Rattle.notice_ledger.specs.Deals.{deal}
 use Rattle.notifyd.specs.declared.line.Line.{Line}
 use Rattle.notifyd.specs.declared.line.Line.TheVariants as line
 use Rattle.notifyd.specs.declared.reply.Reply.{Reply}
 use Rattle.notifyd.specs.declared.reply.Reply.TheVariants as reply
-
--- the world after a line, and its reply, where it has one
-pub record Step : Type 0 where
-  pub after : World
-  pub reply : Option Reply
 
 -- a request is refused, and the world stays, or it is an event, which keeps its lists in order
 abbrev pub asked_unless : Option Refusal → World → Request → Step
@@ -37,10 +36,17 @@ mailed_for (Some d) w =
     else record { after = w; reply = Some (reply.Mail (NotDue (Some d.due))) }
 
 -- what a line does where neither memory nor the keeper fails: `at` sets the clock to the greater of itself and the
--- moment, `audit` gives the counts of the journal, and the others are the event that the line names
+-- moment, `audit` gives the counts of the journal, the lines of the hub are its steps, and the others are the event that
+-- the line names
 abbrev pub clean_step : World → Line → Step
 clean_step w line.Nothing = record { after = w; reply = None }
-clean_step w (line.At moment) = record { after = world w.journal (max w.clock moment); reply = None }
+clean_step w (line.At moment) = record { after = world w.journal w.hub (max w.clock moment); reply = None }
 clean_step w (line.Asked request) = asked_unless (refusal w.journal request) w request
 clean_step w line.Mail = mailed_for (first_due w.journal) w
 clean_step w line.Audit = record { after = w; reply = Some (reply.Audit (counts_of w.journal)) }
+clean_step w (line.Register user) = for_known w user (register_step w user)
+clean_step w (line.Beat user) = for_known w user (beat_step w user)
+clean_step w (line.Ack user queue upto) = for_known w user (acked_step (queue_at w.hub user queue) w user upto)
+clean_step w (line.Leave user queue) = for_known w user (left_step (queue_at w.hub user queue) w user)
+clean_step w line.Sweep = swept_step (overdue_user w.hub w.clock) w
+clean_step w line.Deal = dealt_step (deal w.journal w.hub.next) w

@@ -4,7 +4,7 @@ use Rattle.chat_model.specs.declared.counts.Counts.{Counts}
 use Rattle.chat_model.specs.declared.request.Answer.{Answer}
 use Rattle.chat_model.specs.declared.request.Answer.TheVariants.{User, Group, Channel, Sent, Done}
 use Rattle.chat_model.specs.declared.request.Refusal.{Refusal}
-use Rattle.chat_model.specs.declared.request.Refusal.TheVariants.{TooMany}
+use Rattle.chat_model.specs.declared.request.Refusal.TheVariants.{BadEventId, TooMany}
 pub use Rattle.chat_model.specs.Refusals.{refusal_number}
 use Rattle.office.specs.declared.answer.MailAnswer.{MailAnswer}
 use Rattle.office.specs.declared.answer.MailAnswer.TheVariants.{Mailed, NotDue}
@@ -42,8 +42,9 @@ count_words counts =
     codes "audit " ++ account_words counts ++ codes " entries=" ++ decimal counts.entries
     ++ codes " waiting=" ++ decimal counts.waiting ++ codes " written=" ++ decimal counts.written
 
--- what stands behind the number of a refusal: the limit that a list was too long for
+-- what stands behind the number of a refusal: the queue's next event number, or the limit that a list was too long for
 abbrev pub limit_words : Refusal → List ℕ
+limit_words (BadEventId next) = codes " next " ++ decimal next
 limit_words (TooMany limit) = codes " limit " ++ decimal limit
 limit_words _ = []
 

@@ -3,6 +3,7 @@ ghost use Rattle.std.specs.Prelude.{◌≡◌, ◌||◌, false};
 ghost use Rattle.notifyd.specs.Play.{is_keeper_fault, is_out_of_memory};
 
 use crate::reply::Reply;
+use chat_model::Counts;
 use office::StartFault;
 
 /// How a play ends.
@@ -18,8 +19,10 @@ pub enum Ending {
     TooLong,
     /// The sink failed.
     SinkFault,
-    /// The office could not start.
+    /// The office could not start, or an audit had nothing to count.
     NotStarted(StartFault),
+    /// The kept rows are those of the kept journal, which has these counts.
+    Audited(Counts),
 }
 
 /// What was met at the lines so far.

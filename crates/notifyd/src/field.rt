@@ -1,10 +1,10 @@
 //! The forms that a field may have, and where one begins and ends. A place in a line is the number of bytes before it.
 ghost use Rattle.std.specs.Prelude.{◌≡◌, ◌+◌, ◌^◌, ◌<◌, ◌≤◌, ◌==◌, not, length, drop, slice_index, slice_range, IfSome, MatchOption, IsUtf8, Some, None, option_and_then};
 ghost use Rattle.chat_model.specs.Number.{number_of};
-ghost use Rattle.notifyd.specs.Field.{column_of, is_space, is_no_space, run_end, field_start, word_end, moment_of, switch_of, quoted_len, is_escape, begins_escape, ends_field, string_len};
+ghost use Rattle.notifyd.specs.Field.{column_of, is_space, is_no_space, is_no_colon, run_end, field_start, word_end, moment_of, switch_of, queue_of, upto_of, quoted_len, is_escape, begins_escape, ends_field, string_len};
 
 use crate::line::{Column, MAX_LINE};
-use chat_model::{Moment, number_of};
+use chat_model::{Moment, QueueId, number_of};
 
 /// The column of a place.
 pub fn column_of(place: usize) -> Column
@@ -62,6 +62,43 @@ pub fn switch_of(word: &[u8]) -> Option<bool>
         return Some(false);
     }
     None
+}
+
+// The place of the first colon, the end where there is none.
+fn colon_of(word: &[u8]) -> usize
+    ensures place { result ≡ run_end is_no_colon word.now 0 }
+    ensures within { result ≤ length word.now }
+{
+    let mut end = 0;
+    while end < word.len() && word[end] != b':' {
+        end += 1;
+    }
+    end
+}
+
+/// The id of a queue: its run and its number, with a colon between them.
+#[tactic(auto, unfolding(crate::specs::Field::queue_of))]
+pub fn queue_of(word: &[u8]) -> Option<QueueId>
+    ensures { result ≡ queue_of word.now }
+{
+    let colon = colon_of(word);
+    if colon == word.len() {
+        return None;
+    }
+    let run = number_of(&word[..colon])?;
+    let number = number_of(&word[colon + 1..])?;
+    Some(QueueId { run, number })
+}
+
+/// The number up to which is acked, or `none`.
+#[tactic(auto, unfolding(crate::specs::Field::upto_of))]
+pub fn upto_of(word: &[u8]) -> Option<Option<u64>>
+    ensures { result ≡ upto_of word.now }
+{
+    if word == b"none".as_slice() {
+        return Some(None);
+    }
+    Some(Some(number_of(word)?))
 }
 
 /// How many bytes stand between the quotes of the string field that begins here.

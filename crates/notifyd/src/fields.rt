@@ -1,14 +1,16 @@
 //! The fields of a line, which are read one after another and take no memory.
 ghost use Rattle.std.specs.Prelude.{◌≡◌, ◌≤◌, length, slice_range, IfOk, IfErr, OnOk, IsUtf8, Ok, Err};
 ghost use Rattle.chat_model.specs.Number.{number_of};
-ghost use Rattle.notifyd.specs.Field.{column_of, field_start, word_end, word_at, word_field, moment_of, switch_of, list_of, string_field, line_end};
+ghost use Rattle.notifyd.specs.Field.{column_of, field_start, word_end, word_at, word_field, moment_of, switch_of, queue_of, upto_of, list_of, string_field, line_end};
 ghost use Rattle.notifyd.specs.Fault.{IsBadAt, IsFieldRead};
 
-use crate::field::{column_of, field_start, moment_of, string_len, switch_of, word_end};
+use crate::field::{
+    column_of, field_start, moment_of, queue_of, string_len, switch_of, upto_of, word_end,
+};
 use crate::line::{Column, LineFault, MAX_LINE};
 use crate::listed::Listed;
 use crate::quoted::Quoted;
-use chat_model::{Moment, number_of};
+use chat_model::{Moment, QueueId, number_of};
 use std::marker::Model;
 
 /// A line, and the place from which on its fields are still to be read.
@@ -109,6 +111,32 @@ impl<'a> Fields<'a> {
         let word = self.next_word();
         match switch_of(word.bytes) {
             Some(on) => Ok(on),
+            None => Err(word.fault()),
+        }
+    }
+
+    /// The id of a queue.
+    #[tactic(auto, unfolding(crate::specs::Field::word_field))]
+    pub fn queue(&mut self) -> Result<QueueId, LineFault>
+        ensures read { IsFieldRead (word_field queue_of self.old.line self.old.place) result self.new.place }
+        ensures line { self.new.line ≡ self.old.line }
+    {
+        let word = self.next_word();
+        match queue_of(word.bytes) {
+            Some(queue) => Ok(queue),
+            None => Err(word.fault()),
+        }
+    }
+
+    /// The number up to which is acked, or `none`.
+    #[tactic(auto, unfolding(crate::specs::Field::word_field))]
+    pub fn upto(&mut self) -> Result<Option<u64>, LineFault>
+        ensures read { IsFieldRead (word_field upto_of self.old.line self.old.place) result self.new.place }
+        ensures line { self.new.line ≡ self.old.line }
+    {
+        let word = self.next_word();
+        match upto_of(word.bytes) {
+            Some(upto) => Ok(upto),
             None => Err(word.fault()),
         }
     }

@@ -5,6 +5,7 @@ ghost use Rattle.notifyd.specs.Fault.{IsRead};
 ghost use Rattle.notifyd.specs.Grammar.{at_line, user_line, group_line, member_line, channel_line, subscribe_line, send_line, mail_line, audit_line, step_reading, fields_reading};
 
 use crate::fields::Fields;
+use crate::hub_kinds::read_hub;
 use crate::line::{Line, LineFault, MAX_LINE};
 use chat_model::{ChannelId, GroupId, Request, UserId};
 use std::alloc::Global;
@@ -51,7 +52,7 @@ fn read_step(line: &[u8]) -> Result<Line, LineFault>
     } else if kind.bytes == b"audit".as_slice() {
         read_audit(&fields)
     } else {
-        Err(kind.fault())
+        read_hub(line)
     }
 }
 

@@ -4,11 +4,11 @@ ghost use Rattle.std.specs.Option.{option_map};
 ghost use Rattle.chat_model.specs.Counts.{HasRisen};
 ghost use Rattle.notifyd.specs.Sink.{WritesFront};
 ghost use Rattle.notifyd.specs.Words.{line_of};
-ghost use Rattle.notifyd.specs.LastLine.{last_line_text};
+ghost use Rattle.notifyd.specs.LastLine.{last_line_text, disagree_words, way_word};
 
 use crate::Sink;
 use crate::words::{Part, Words};
-use chat_model::Failed;
+use chat_model::{Failed, RowKey, Way};
 
 /// The line that ends a run early.
 #[derive(Clone, Copy, Debug, PartialEq, Eq)]
@@ -19,8 +19,8 @@ pub enum LastLine {
     SourceFault,
     /// More bytes came than a script may have.
     TooLong,
-    /// What is kept is not empty.
-    NotEmpty,
+    /// The kept rows and those of the replay differ first at this table and key.
+    Disagree(RowKey),
     /// The words of the command line are no command.
     Usage,
 }
@@ -48,9 +48,42 @@ fn last_words(last: &LastLine) -> Words<'_>
         ]),
         LastLine::SourceFault => Words::word("fault source"),
         LastLine::TooLong => Words::word("script too long"),
-        LastLine::NotEmpty => Words::word("not empty"),
+        LastLine::Disagree(key) => key_words(*key),
         LastLine::Usage => Words::word(
             "usage: notifyd play [--config PATH] | audit [--config PATH] | sample N SEED",
         ),
+    }
+}
+
+fn way_word(way: Way) -> &'static str
+    ensures { result.now ≡ way_word way }
+{
+    match way {
+        Way::Mail => "mail",
+        Way::Push => "push",
+    }
+}
+
+fn key_words(key: RowKey) -> Words<'static>
+    ensures { result ≡ disagree_words key }
+{
+    match key {
+        RowKey::User(user) => Words::of(&[Part::Word("disagree users "), Part::Number(user.0)]),
+        RowKey::Message(message) => Words::of(&[
+            Part::Word("disagree messages "),
+            Part::Number(message.0),
+        ]),
+        RowKey::Pending(user, message, way) => Words::of(&[
+            Part::Word("disagree pending "),
+            Part::Number(user.0),
+            Part::Word(" "),
+            Part::Number(message.0),
+            Part::Word(" "),
+            Part::Word(way_word(way)),
+        ]),
+        RowKey::Outbox(entry) => Words::of(&[
+            Part::Word("disagree outbox "),
+            Part::Number(entry.0),
+        ]),
     }
 }

@@ -7,7 +7,7 @@ ghost use Rattle.notifyd.specs.Fault.{MatchesFault, IsRead};
 
 use crate::field::column_of;
 use crate::kinds::read_fields;
-use chat_model::{Moment, OutOfMemory, Request};
+use chat_model::{Moment, OutOfMemory, QueueId, Request, UserId};
 use std::alloc::Global;
 
 /// The most bytes that a line may have without its line feed.
@@ -29,6 +29,25 @@ pub enum Line {
     Mail,
     /// The counts are asked for.
     Audit,
+    /// A further queue is registered for the user.
+    Register(UserId),
+    /// The user's client is in use.
+    Beat(UserId),
+    /// The items of the queue up to the number are acked.
+    Ack {
+        user: UserId,
+        queue: QueueId,
+        upto: Option<u64>,
+    },
+    /// The queue ends.
+    Leave {
+        user: UserId,
+        queue: QueueId,
+    },
+    /// The overdue queues of a user end.
+    Sweep,
+    /// The next deal is dealt.
+    Deal,
 }
 
 /// Why a line was not read.

@@ -5,11 +5,15 @@ mod command;
 mod ending;
 mod field;
 mod fields;
+mod hub_kinds;
+mod hub_lines;
+mod hub_words;
 mod kinds;
 mod last_line;
 mod line;
 mod line_buffer;
 mod listed;
+mod pieces;
 mod play;
 mod quoted;
 mod reply;
@@ -34,6 +38,10 @@ pub use standard::{StandardSink, StandardSource, run_over};
 use std::process::ExitCode;
 use std::{env, io};
 
+#[cfg(test)]
+mod hub_tests;
+#[cfg(test)]
+mod kept_tests;
 #[cfg(test)]
 mod listed_tests;
 #[cfg(test)]

@@ -1,25 +1,30 @@
 //! A play under way, and what one line does in it.
-ghost use Rattle.std.specs.Prelude.{◌≡◌, ◌+◌, ◌<◌, ◌≤◌, ◌==◌, ◌||◌, ◌++◌, ◌∷◌, [], length, false, max, cond, IfOk, IfErr, IfSome, OnOk, OnErr, Ok, Err, Some, is_some};
+ghost use Rattle.std.specs.Prelude.{◌≡◌, ◌+◌, ◌<◌, ◌≤◌, ◌==◌, ◌||◌, ◌++◌, ◌∷◌, [], length, false, max, cond, IfOk, IfErr, IfSome, OnOk, OnErr, Ok, Err, Option, Some, is_some};
 ghost use Rattle.std.specs.Option.{option_map};
 ghost use Rattle.chat_model.specs.Counts.{HasRisen};
+ghost use Rattle.presence_queues.specs.Hub.{HubSeen};
 ghost use Rattle.notifyd.specs.Grammar.{reading};
 ghost use Rattle.notifyd.specs.Sink.{WritesFront};
 ghost use Rattle.notifyd.specs.Cut.{completes};
-ghost use Rattle.notifyd.specs.World.{world, started};
+ghost use Rattle.notifyd.specs.World.{world};
 ghost use Rattle.notifyd.specs.Play.{IsStep, PlaysLine, answer_text, is_keeper_fault, is_out_of_memory};
-ghost use Rattle.notifyd.specs.Status.{KeptIsEmpty, KeptIsConserved};
-ghost use Rattle.notifyd.specs.Going.{Goes, standing};
-ghost use Rattle.office.specs.Office.{KeptStandsFor};
+ghost use Rattle.notifyd.specs.Status.{KeptIsConserved};
+ghost use Rattle.notifyd.specs.Going.{Goes, HasBegun, standing};
+ghost use Rattle.chat_model.specs.declared.row.Row.{Row};
+ghost use Rattle.office.specs.Office.{KeptStandsFor, HasDisagreed};
 ghost use Rattle.office.specs.Faults.{faults_in_start};
 
 use crate::Sink;
 use crate::ending::{Ended, Ending, Met};
+use crate::hub_lines::{ack, beat, deal, leave, register, sweep};
 use crate::line::{Column, Line, LineFault, MAX_LINE, read_line};
 use crate::reply::{Reply, write_reply};
 use crate::under_way::UnderWay;
 use chat_model::{Failed, Moment, Request};
 use keeper::Keeper;
+use missed_hook::PlainPipe;
 use office::{AskFault, Office, StartFault, StepFault};
+use presence_queues::Hub;
 use std::alloc::Global;
 use std::marker::Model;
 
@@ -31,6 +36,7 @@ pub const MAX_SCRIPT: usize = 67_108_864;
 pub struct Play<K: Keeper> {
     pub alloc: Global,
     pub office: Office<K>,
+    pub hub: Hub<PlainPipe>,
     pub clock: Moment,
     pub met: Met,
     /// The number of the line played last, from 1.
@@ -49,7 +55,7 @@ impl<K: Keeper> Model for Play<K> {
     ghost Value = { Playing K };
 
     ghost view = { λ p. record {
-      world = world p.office.journal p.clock;
+      world = world p.office.journal p.hub p.clock;
       met = p.met;
       number = p.number;
       taken = p.taken;
@@ -70,7 +76,7 @@ pub enum Next<K: Keeper> {
 }
 
 fn ask<K: Keeper>(office: &mut Office<K>, clock: Moment, request: Request) -> Reply
-    ensures step { IsStep (world office.old.journal clock) (Line.Asked request) (Some result) (world office.new.journal clock) }
+    ensures step { (hub : HubSeen) → IsStep (world office.old.journal hub clock) (Line.Asked request) (Some result) (world office.new.journal hub clock) }
     ensures told { is_some (K.kept office.new.keeper) ≡ is_some (K.kept office.old.keeper) }
     ensures cause { result ≡ Reply.KeeperFault → HasRisen (K.faults office.old.keeper) (K.faults office.new.keeper) }
     ensures count { K.faults office.old.keeper ≤ K.faults office.new.keeper }
@@ -85,7 +91,7 @@ fn ask<K: Keeper>(office: &mut Office<K>, clock: Moment, request: Request) -> Re
 }
 
 fn mail<K: Keeper>(office: &mut Office<K>, clock: Moment) -> Reply
-    ensures step { IsStep (world office.old.journal clock) Line.Mail (Some result) (world office.new.journal clock) }
+    ensures step { (hub : HubSeen) → IsStep (world office.old.journal hub clock) Line.Mail (Some result) (world office.new.journal hub clock) }
     ensures told { is_some (K.kept office.new.keeper) ≡ is_some (K.kept office.old.keeper) }
     ensures cause { result ≡ Reply.KeeperFault → HasRisen (K.faults office.old.keeper) (K.faults office.new.keeper) }
     ensures count { K.faults office.old.keeper ≤ K.faults office.new.keeper }
@@ -105,36 +111,29 @@ fn later(clock: Moment, moment: Moment) -> Moment
 }
 
 // Writes the reply, where there is one.
-fn write_answer<O: Sink>(out: &mut O, reply: &Option<Reply>) -> Result<(), Failed>
-    ensures ok { OnOk result (O.written out.new ≡ option_map (λ done. done ++ answer_text reply.now) (O.written out.old)) }
-    ensures front { OnErr result (WritesFront (answer_text reply.now) (O.written out.old) (O.written out.new)) }
+fn write_answer<O: Sink>(out: &mut O, reply: Option<Reply>) -> Result<(), Failed>
+    ensures ok { OnOk result (O.written out.new ≡ option_map (λ done. done ++ answer_text reply) (O.written out.old)) }
+    ensures front { OnErr result (WritesFront (answer_text reply) (O.written out.old) (O.written out.new)) }
     ensures cause { OnErr result (HasRisen (O.faults out.old) (O.faults out.new)) }
     ensures count { O.faults out.old ≤ O.faults out.new }
 {
     match reply {
-        Some(reply) => write_reply(out, reply),
+        Some(reply) => write_reply(out, &reply),
         None => Ok(()),
     }
 }
 
 impl<K: Keeper> Play<K> {
-    /// Takes the room for the longest line, and starts the office at moment 0.
+    /// Takes the room for the longest line, and starts the office over what is kept, at moment 0, with a hub of its run.
+    /// The clock begins at the stamp of the start.
     pub fn start(alloc: Global, keeper: K) -> Result<Play<K>, (StartFault, K)>
-        ensures begun { IfOk result (λ play. play ≡ record {
-          world = started;
-          met = record { keeper_fault = false; out_of_memory = false };
-          number = 0;
-          taken = 0;
-          under_way = [];
-          keeper = play.keeper;
-        }) }
-        ensures was_empty { OnOk result (KeptIsEmpty (K.kept keeper)) }
+        ensures begun { IfOk result (λ play. HasBegun (K.kept keeper) play) }
         ensures told { IfOk result (λ play. is_some (K.kept play.keeper) ≡ is_some (K.kept keeper)) }
         ensures counted { IfOk result (λ play. K.faults play.keeper ≡ K.faults keeper) }
         ensures same { IfErr result (λ e. K.kept e.1 ≡ K.kept keeper) }
         ensures fault { IfErr result (λ e. e.0 ≡ StartFault.KeeperFault → HasRisen (K.faults keeper) (K.faults e.1)) }
-        ensures not_empty { IfErr result (λ e. e.0 ≡ StartFault.NotEmpty →
-            IfSome (K.kept keeper) (λ kept. 0 < length kept.journal + length kept.rows)) }
+        ensures disagree { IfErr result (λ e. (kept replayed : Option Row) → e.0 ≡ StartFault.Disagree kept replayed →
+            HasDisagreed (K.kept keeper) kept replayed) }
         ensures counted_err { IfErr result (λ e. K.faults keeper ≤ K.faults e.1) }
         ensures most { IfErr result (λ e. K.faults e.1 ≤ K.faults keeper + faults_in_start e.0) }
     {
@@ -145,10 +144,14 @@ impl<K: Keeper> Play<K> {
             unreachable!();
         };
         let office = Office::start(alloc, keeper, first)?;
+        let pipe = PlainPipe::new(alloc);
+        let hub = Hub::new(alloc, pipe, office.run_number(), office.deal_count());
+        let clock = office.last_stamp();
         Ok(Play {
             alloc,
             office,
-            clock: first,
+            hub,
+            clock,
             met: Met::nothing(),
             number: 0,
             taken: 0,
@@ -188,6 +191,25 @@ impl<K: Keeper> Play<K> {
             Line::Asked(request) => Some(ask(&mut self.office, self.clock, request)),
             Line::Mail => Some(mail(&mut self.office, self.clock)),
             Line::Audit => Some(Reply::Audit(self.office.audit())),
+            Line::Register(user) => Some(register(&self.office, &mut self.hub, self.clock, user)),
+            Line::Beat(user) => Some(beat(&self.office, &mut self.hub, self.clock, user)),
+            Line::Ack { user, queue, upto } => Some(ack(
+                &self.office,
+                &mut self.hub,
+                self.clock,
+                user,
+                queue,
+                upto,
+            )),
+            Line::Leave { user, queue } => Some(leave(
+                &self.office,
+                &mut self.hub,
+                self.clock,
+                user,
+                queue,
+            )),
+            Line::Sweep => Some(sweep(&mut self.hub, self.clock)),
+            Line::Deal => Some(deal(&self.office, &mut self.hub, self.clock)),
         }
     }
 
@@ -263,7 +285,7 @@ impl<K: Keeper> Play<K> {
         match play.answer() {
             Ok(reply) => {
                 play.pass(&reply);
-                match write_answer(out, &reply) {
+                match write_answer(out, reply) {
                     Ok(()) => Next::On(play),
                     Err(_) => Next::Ended(play.end(Ending::SinkFault)),
                 }

@@ -7,9 +7,13 @@ ghost use Rattle.notifyd.specs.Words.{line_of, answer_words, mail_words, count_w
 ghost use Rattle.notifyd.specs.Reply.{reply_text};
 
 use crate::Sink;
+use crate::hub_words::{dealt_words, items_words, queue_words, sweep_words};
 use crate::words::{Part, Words};
-use chat_model::{Answer, Counts, Failed, OutOfMemory, Refusal, Text};
+use chat_model::{
+    Answer, Counts, DealNo, Failed, List, OutOfMemory, QueueId, Refusal, Text, UserVerdict,
+};
 use office::MailAnswer;
+use presence_queues::{QueueItem, SweepAnswer};
 use std::alloc::Global;
 
 /// What a line is answered.
@@ -21,6 +25,19 @@ pub enum Reply {
     Mail(MailAnswer),
     /// The counts.
     Audit(Counts),
+    /// A queue was registered.
+    Queue(QueueId),
+    /// The items that an ack leaves.
+    Items(List<QueueItem>),
+    /// Queues ended, or none was overdue.
+    Sweep(SweepAnswer),
+    /// A deal was dealt, with a verdict for each of its users.
+    Dealt {
+        deal: DealNo,
+        verdicts: List<UserVerdict>,
+    },
+    /// The hub has dealt all deals.
+    NoDeal,
     /// A request broke a rule.
     Refused(Refusal),
     /// The keeper failed.
@@ -54,6 +71,11 @@ fn reply_words(reply: &Reply) -> Words<'_>
         Reply::Answer(answer) => answer_words(answer),
         Reply::Mail(answer) => mail_words(answer),
         Reply::Audit(counts) => count_words(counts),
+        Reply::Queue(queue) => queue_words(queue),
+        Reply::Items(items) => items_words(items),
+        Reply::Sweep(answer) => sweep_words(answer),
+        Reply::Dealt { deal, verdicts } => dealt_words(*deal, verdicts),
+        Reply::NoDeal => Words::word("no deal"),
         Reply::Refused(refusal) => refusal_words(refusal),
         Reply::KeeperFault => Words::word("fault keeper"),
         Reply::OutOfMemory => Words::word("out of memory"),
@@ -135,6 +157,12 @@ fn refusal_words(refusal: &Refusal) -> Words<'_>
 {
     let number = refusal.number();
     match refusal {
+        Refusal::BadEventId { next } => Words::of(&[
+            Part::Word("refused "),
+            Part::Number(number),
+            Part::Word(" next "),
+            Part::Number(*next),
+        ]),
         Refusal::TooMany { limit } => Words::of(&[
             Part::Word("refused "),
             Part::Number(number),

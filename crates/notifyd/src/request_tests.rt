@@ -5,16 +5,15 @@ use std::alloc::AllocError;
 use std::process::Abort;
 use std::test::Fail;
 
-#[test]
-fn requests_are_granted_or_refused_by_their_rules(rt: HostRuntime) -> Result<(), Fail> {
-    let scripts = [
-        r#"send 3 1 "a" "x" => refused 10
+/// Behind the opening, requests that are granted or refused.
+pub const REQUESTS: [&str; 5] = [
+    r#"send 3 1 "a" "x" => refused 10
 send 1 9 "a" "x" => refused 11
 member 4 1 on => refused 13
 channel "TEAM" => refused 14
 send 1 1 "a" "x" => sent 1 deal 0
 "#,
-        r#"sub 2 1 off => ok
+    r#"sub 2 1 off => ok
 send 2 1 "a" "x" => refused 16
 send 1 1 "a" "  " => refused 17
 user "a*b" => refused 25
@@ -22,42 +21,44 @@ user "" => refused 25
 group "a*b" 1 => refused 25
 channel "a*b" => refused 25
 "#,
-        r#"group "ops" - => group 1
+    r#"group "ops" - => group 1
 group "OPS" 1 => refused 14
 group "dev" 1,9 => refused 10
 member 1 9 on => refused 10
 "#,
-        r#"# Names that may be shared.
+    r#"# Names that may be shared.
 user "ada" => user 3
 group "team" 1 => group 1
 channel "Ada" => channel 2
 send 1 1 "" "x" => sent 1 deal 0
 "#,
-        r#"# Of two broken rules the smaller number is answered.
+    r#"# Of two broken rules the smaller number is answered.
 group "ops" - => group 1
 group "OPS" 9 => refused 10
 member 4 9 on => refused 10
 sub 2 1 off => ok
 send 2 1 "a" "  " => refused 16
 "#,
-    ];
-    for rows in scripts {
+];
+
+#[test]
+fn requests_are_granted_or_refused_by_their_rules(rt: HostRuntime) -> Result<(), Fail> {
+    for rows in REQUESTS {
         expect_opened(&rt, rows)?;
     }
     Ok(())
 }
 
-#[test]
-fn notices_come_by_name_by_group_and_not_by_wildcards(rt: HostRuntime) -> Result<(), Fail> {
-    let scripts = [
-        r#"# A group of the sender alone.
+/// Behind the opening, texts that mention Ben or nobody.
+pub const NOTICES: [&str; 4] = [
+    r#"# A group of the sender alone.
 group "ops" 2,2 => group 1
 member 1 1 on => ok
 member 1 2 off => ok
 send 1 1 "a" "@*OPS* x" => sent 1 deal 0
 audit => audit flight=0 held=0 ready=0 handed=0 read=0 deleted=0 off=0 live=0 entries=0 waiting=0 written=0
 "#,
-        r#"group "ops" 2,1 => group 1
+    r#"group "ops" 2,1 => group 1
 send 1 1 "lunch" "ask @*Ops*" => sent 1 deal 0
 audit => audit flight=0 held=0 ready=2 handed=0 read=0 deleted=0 off=0 live=0 entries=0 waiting=0 written=0
 at 219
@@ -66,18 +67,21 @@ at 220
 mail => mailed 2 entries=1 dropped=0
 mail => not due -
 "#,
-        r#"send 1 1 "a" "@**all** @**everyone** @**topic**" => sent 1 deal 0
+    r#"send 1 1 "a" "@**all** @**everyone** @**topic**" => sent 1 deal 0
 audit => audit flight=0 held=0 ready=0 handed=0 read=0 deleted=0 off=0 live=0 entries=0 waiting=0 written=0
 "#,
-        r#"# Marks and line feeds in a text.
+    r#"# Marks and line feeds in a text.
 send 1 1 "a" "one `|` two\n_three_ > four ~" => sent 1 deal 0
 send 1 1 "a" "`@**Ben**` @_**Ben**\n> @**Ben**" => sent 2 deal 1
 audit => audit flight=0 held=0 ready=0 handed=0 read=0 deleted=0 off=0 live=0 entries=0 waiting=0 written=0
 send 1 1 "a" "> no\n@**Ben|2**" => sent 3 deal 2
 audit => audit flight=0 held=0 ready=2 handed=0 read=0 deleted=0 off=0 live=0 entries=0 waiting=0 written=0
 "#,
-    ];
-    for rows in scripts {
+];
+
+#[test]
+fn notices_come_by_name_by_group_and_not_by_wildcards(rt: HostRuntime) -> Result<(), Fail> {
+    for rows in NOTICES {
         expect_opened(&rt, rows)?;
     }
     Ok(())

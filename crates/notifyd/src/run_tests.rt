@@ -36,22 +36,24 @@ fn list_of(alloc: Global, numbers: &[u64]) -> Result<List<u64>, AllocError> {
     Ok(List::from(Vec::from_slice(alloc, numbers)?))
 }
 
-/// Runs `play` on the bytes in pieces of so many, and compares what is written and the status.
-pub fn expect_run<R: Abort + AllocGlobal>(
+/// Runs a command over a keeper on the bytes in pieces of so many, compares what is written and the status, and gives the
+/// keeper back.
+pub fn expect_over<R: Abort + AllocGlobal>(
     rt: &R,
+    command: &str,
+    keeper: MemoryKeeper,
     bytes: List<u8>,
     piece: usize,
     failing: &Failing<'_>,
     written: &[u8],
     status: u8,
-) -> Result<(), Fail>
+) -> Result<MemoryKeeper, Fail>
     requires { 1 ≤ piece }
 {
     let alloc = rt.alloc();
-    let words = vec![in alloc; Text::from_str(alloc, "play")?]?;
+    let words = vec![in alloc; Text::from_str(alloc, command)?]?;
     let mut source = MemorySource::new(bytes, piece, list_of(alloc, failing.source)?);
     let mut sink = MemorySink::new(alloc, 4_096, list_of(alloc, failing.sink)?)?;
-    let keeper = MemoryKeeper::new(alloc, list_of(alloc, failing.keeper)?);
     let mut spool = MemorySpool::new(alloc, List::new(alloc));
     let ran = run(
         alloc,
@@ -63,11 +65,27 @@ pub fn expect_run<R: Abort + AllocGlobal>(
     );
     assert_eq!(rt; sink.bytes(), written);
     assert_eq!(rt; ran.status, status);
+    Ok(ran.keeper)
+}
+
+/// Runs `play` over an empty keeper.
+pub fn expect_run<R: Abort + AllocGlobal>(
+    rt: &R,
+    bytes: List<u8>,
+    piece: usize,
+    failing: &Failing<'_>,
+    written: &[u8],
+    status: u8,
+) -> Result<(), Fail>
+    requires { 1 ≤ piece }
+{
+    let keeper = MemoryKeeper::new(rt.alloc(), list_of(rt.alloc(), failing.keeper)?);
+    expect_over(rt, "play", keeper, bytes, piece, failing, written, status)?;
     Ok(())
 }
 
-// The lines of a worked script, and their answers, each with a line feed.
-fn lines_and_answers(alloc: Global, worked: &str) -> Result<(Vec<u8>, Vec<u8>), AllocError> {
+/// The lines of a worked script, and their answers, each with a line feed.
+pub fn lines_and_answers(alloc: Global, worked: &str) -> Result<(Vec<u8>, Vec<u8>), AllocError> {
     let mut lines = Vec::new(alloc);
     let mut answers = Vec::new(alloc);
     for row in worked.lines() {
@@ -114,9 +132,8 @@ pub fn expect_opened<R: Abort + AllocGlobal>(rt: &R, rows: &str) -> Result<(), F
     expect_worked(rt, worked.as_str(), 4_096, &NEVER, 0)
 }
 
-#[test]
-fn an_idle_user_is_mailed_after_the_period(rt: HostRuntime) -> Result<(), Fail> {
-    let rows = r#"# Ada mentions Ben.
+/// Behind the opening, Ada mentions Ben, who is mailed once the period is over.
+pub const IDLE: &str = r#"# Ada mentions Ben.
 send 1 1 "lunch" "hi @**Ben**" => sent 1 deal 0
 audit => audit flight=0 held=0 ready=2 handed=0 read=0 deleted=0 off=0 live=0 entries=0 waiting=0 written=0
 at 219
@@ -126,7 +143,10 @@ mail => mailed 2 entries=1 dropped=0
 mail => not due -
 audit => audit flight=0 held=0 ready=1 handed=1 read=0 deleted=0 off=0 live=0 entries=1 waiting=0 written=0
 "#;
-    let worked = format!(in rt.alloc(); "{OPENING}{rows}")?;
+
+#[test]
+fn an_idle_user_is_mailed_after_the_period(rt: HostRuntime) -> Result<(), Fail> {
+    let worked = format!(in rt.alloc(); "{OPENING}{IDLE}")?;
     for piece in [1, 4_096] {
         assert!(rt; 1 <= piece);
         expect_worked(&rt, worked.as_str(), piece, &NEVER, 0)?;
@@ -200,52 +220,19 @@ fn a_last_line_needs_no_line_feed(rt: HostRuntime) -> Result<(), Fail> {
 #[test]
 fn other_words_are_no_command(rt: HostRuntime) -> Result<(), Fail> {
     let alloc = rt.alloc();
-    let words = vec![in alloc; Text::from_str(alloc, "serve")?]?;
-    let mut source = MemorySource::new(List::new(alloc), 1, List::new(alloc));
-    let mut sink = MemorySink::new(alloc, 256, List::new(alloc))?;
-    let keeper = MemoryKeeper::new(alloc, List::new(alloc));
-    let mut spool = MemorySpool::new(alloc, List::new(alloc));
-    let ran = run(
-        alloc,
-        words.as_slice(),
-        &mut source,
-        &mut sink,
-        keeper,
-        &mut spool,
-    );
-    assert_eq!(rt; ran.status, 1);
     let usage = "usage: notifyd play [--config PATH] | audit [--config PATH] | sample N SEED\n";
-    assert_eq!(rt; sink.bytes(), usage.as_bytes());
-    Ok(())
-}
-
-#[test]
-fn a_keeper_that_keeps_something_is_not_started_over(rt: HostRuntime) -> Result<(), Fail> {
-    let alloc = rt.alloc();
-    let words = vec![in alloc; Text::from_str(alloc, "play")?]?;
-    let mut source = MemorySource::new(List::new(alloc), 1, List::new(alloc));
-    let mut sink = MemorySink::new(alloc, 256, List::new(alloc))?;
-    let mut spool = MemorySpool::new(alloc, List::new(alloc));
+    let written = usage.as_bytes();
     let keeper = MemoryKeeper::new(alloc, List::new(alloc));
-    let first = run(
-        alloc,
-        words.as_slice(),
-        &mut source,
-        &mut sink,
+    expect_over(
+        &rt,
+        "serve",
         keeper,
-        &mut spool,
-    );
-    assert_eq!(rt; first.status, 0);
-    let again = run(
-        alloc,
-        words.as_slice(),
-        &mut source,
-        &mut sink,
-        first.keeper,
-        &mut spool,
-    );
-    assert_eq!(rt; again.status, 8);
-    assert_eq!(rt; sink.bytes(), b"not empty\n".as_slice());
+        List::new(alloc),
+        1,
+        &NEVER,
+        written,
+        1,
+    )?;
     Ok(())
 }
 

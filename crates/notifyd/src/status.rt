@@ -5,8 +5,8 @@ ghost use Rattle.notifyd.specs.Status.{status_number};
 /// The status with which a run ends.
 #[derive(Clone, Copy, Debug, PartialEq, Eq)]
 pub enum Status {
-    /// The input was played to its end, and no fault and no want of memory was met.
-    Played,
+    /// The input was played to its end, and no fault and no want of memory was met; or the counts were written.
+    Done,
     /// The words are no command.
     NoCommand,
     /// A line is bad.
@@ -19,8 +19,8 @@ pub enum Status {
     KeeperFault,
     /// Memory was wanted.
     OutOfMemory,
-    /// What is kept is not empty.
-    NotEmpty,
+    /// The kept rows are not those of the kept journal.
+    Disagree,
     /// More bytes came than a script may have.
     TooLong,
 }
@@ -31,14 +31,14 @@ impl Status {
         ensures { result ≡ status_number self }
     {
         match self {
-            Status::Played => 0,
+            Status::Done => 0,
             Status::NoCommand => 1,
             Status::BadLine => 2,
             Status::SourceFault => 3,
             Status::SinkFault => 4,
             Status::KeeperFault => 5,
             Status::OutOfMemory => 7,
-            Status::NotEmpty => 8,
+            Status::Disagree => 8,
             Status::TooLong => 9,
         }
     }

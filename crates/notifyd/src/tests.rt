@@ -1,7 +1,8 @@
 //! Each public call once, with ample memory, and worked values.
 use super::*;
 use chat_model::{
-    Answer, ChannelId, Counts, DealNo, Failed, GroupId, List, MessageId, Refusal, Request, UserId,
+    Answer, ChannelId, Counts, DealNo, Failed, GroupId, List, MessageId, Refusal, Request, RowKey,
+    UserId,
 };
 use office::MailAnswer;
 use std::process::Abort;
@@ -156,18 +157,19 @@ fn last_lines_have_their_texts(rt: HostRuntime) -> Result<(), Fail> {
     assert_eq!(rt; write_last_line(&mut sink, &bad), Ok(()));
     assert_eq!(rt; write_last_line(&mut sink, &LastLine::SourceFault), Ok(()));
     assert_eq!(rt; write_last_line(&mut sink, &LastLine::TooLong), Ok(()));
-    assert_eq!(rt; write_last_line(&mut sink, &LastLine::NotEmpty), Ok(()));
+    let message = LastLine::Disagree(RowKey::Message(MessageId(2)));
+    assert_eq!(rt; write_last_line(&mut sink, &message), Ok(()));
     assert_eq!(rt; write_all(&mut sink, b"end"), Ok(()));
     assert_eq!(rt;
         sink.bytes(),
-        b"bad line 2 column 8\nfault source\nscript too long\nnot empty\nend".as_slice()
+        b"bad line 2 column 8\nfault source\nscript too long\ndisagree messages 2\nend".as_slice()
     );
     Ok(())
 }
 
 #[test]
 fn bad_lines_have_their_columns(rt: HostRuntime) -> Result<(), Fail> {
-    let rows: [(&[u8], Column); 16] = [
+    let rows: [(&[u8], Column); 23] = [
         (b"at", 3),
         (b"hello", 1),
         (b"user \"Ada", 6),
@@ -184,6 +186,13 @@ fn bad_lines_have_their_columns(rt: HostRuntime) -> Result<(), Fail> {
         (b"member 1 2\n", 11),
         (b"member 1 2 on off\n", 15),
         (b"audit now\n", 7),
+        (b"register\n", 9),
+        (b"ack 2 1:1\n", 10),
+        (b"ack 2 1-1 none\n", 7),
+        (b"ack 2 1:1:1 none\n", 7),
+        (b"ack 2 1:1 x\n", 11),
+        (b"leave 2 :1\n", 9),
+        (b"deal 1\n", 6),
     ];
     for (bytes, column) in rows {
         match read_line(rt.alloc(), bytes) {

@@ -9,8 +9,10 @@ ghost use Rattle.notifyd.specs.Words.{line_of};
 
 use crate::Sink;
 use crate::line_buffer::LineBuffer;
-use chat_model::{Failed, OutOfMemory, Text};
+use crate::pieces::{print_list, write_list};
+use chat_model::{Failed, OutOfMemory, Text, UserVerdict};
 use itoa::Buffer;
+use presence_queues::QueueItem;
 use std::alloc::Global;
 use std::marker::Model;
 
@@ -22,6 +24,8 @@ pub const MOST_PARTS: usize = 24;
 pub enum Part<'a> {
     Word(&'a str),
     Number(u64),
+    Items(&'a [QueueItem]),
+    Verdicts(&'a [UserVerdict]),
 }
 
 /// The words of a line, which contracts see as their text.
@@ -102,6 +106,8 @@ fn print_part(text: &mut String, part: &Part<'_>) -> Result<(), OutOfMemory>
     match part {
         Part::Word(word) => text.push_str(word)?,
         Part::Number(number) => text.push_str(Buffer::new().format(*number))?,
+        Part::Items(items) => print_list(text, items)?,
+        Part::Verdicts(verdicts) => print_list(text, verdicts)?,
     }
     Ok(())
 }
@@ -131,5 +137,7 @@ fn write_part<O: Sink>(out: &mut O, line: &mut LineBuffer, part: &Part<'_>) -> R
     match part {
         Part::Word(word) => line.push_str(out, word),
         Part::Number(number) => line.push_str(out, Buffer::new().format(*number)),
+        Part::Items(items) => write_list(out, line, items),
+        Part::Verdicts(verdicts) => write_list(out, line, verdicts),
     }
 }

@@ -33,7 +33,6 @@ use Rattle.book_tables.proofs.RowsAfter.{rows-nil}
 -- tables that stand for the same leave an office one
 pub same_office : (old new : Tables) (j : List Stamped) (told : Option Kept) → IsOffice told j old → ((k : List Stamped) → StandsFor old k → StandsFor new k) → IsOffice told j new
 same_office old new j told office same = record {
-  lawful = office.lawful;
   tables = same j office.tables;
   kept = office.kept;
 }
@@ -44,25 +43,21 @@ kept_after None j s cs are kept = tt
 kept_after (Some k) j s cs are kept = (ap (λ x. x ++ s ∷ []) kept.0, ap (changed_all cs) kept.1 ∙ are)
 
 -- a lawful event that was kept and applied
-pub office_after : (old new : Tables) (j : List Stamped) (s : Stamped) (told : Option Kept) (cs : List RowChange) → is_lawful_after j s ≡ true → IsOffice told j old → changed_all cs (rows j) ≡ rows (j ++ s ∷ []) → StandsFor new (j ++ s ∷ [])
+pub office_after : (old new : Tables) (j : List Stamped) (s : Stamped) (told : Option Kept) (cs : List RowChange) → IsOffice told j old → changed_all cs (rows j) ≡ rows (j ++ s ∷ []) → StandsFor new (j ++ s ∷ [])
     → IsOffice (option_map (committed s cs) told) (j ++ s ∷ []) new
-office_after old new j s told cs next office are stands = record {
-  lawful = IsLawful-append j s office.lawful next;
+office_after old new j s told cs office are stands = record {
   tables = stands;
   kept = kept_after told j s cs are office.kept;
 }
 
-empty_kept : (told : Option Kept) (loaded : Kept) → IfSome told (λ k. loaded ≡ k) → loaded.journal ≡ [] → loaded.rows ≡ [] → IfSome told (KeptStandsFor [])
-empty_kept None loaded same journal rows = tt
-empty_kept (Some k) loaded same no_event no_row = (ap (λ (x : Kept). x.journal) (sym same) ∙ no_event, ap (λ (x : Kept). x.rows) (sym same) ∙ (no_row ∙ (sym rows-nil ∙ ap past_rows.rows (sym IsLawful-nil))))
+-- what is kept stands for the loaded journal, where the loaded rows are that journal's
+loaded_kept : (told : Option Kept) (loaded : Kept) → IfSome told (λ k. loaded ≡ k) → loaded.rows ≡ rows loaded.journal → IfSome told (KeptStandsFor loaded.journal)
+loaded_kept None loaded same agree = tt
+loaded_kept (Some k) loaded same agree = (ap (λ (x : Kept). x.journal) (sym same), ap (λ (x : Kept). x.rows) (sym same) ∙ agree)
 
--- an office before its first event, over what was loaded empty
-pub empty_office : (told : Option Kept) (loaded : Kept) (t : Tables) → StandsFor t [] → IfSome told (λ k. loaded ≡ k) → loaded.journal ≡ [] → loaded.rows ≡ [] → IsOffice told [] t
-empty_office told loaded t stands same no_event no_row = record {
-  lawful = IsLawful-nil;
-  tables = stands;
-  kept = empty_kept told loaded same no_event no_row;
-}
+-- an office over what was loaded, before its restart
+pub loaded_office : (told : Option Kept) (loaded : Kept) (t : Tables) → StandsFor t loaded.journal → IfSome told (λ k. loaded ≡ k) → loaded.rows ≡ rows loaded.journal → IsOffice told loaded.journal t
+loaded_office told loaded t stands same agree = record { tables = stands; kept = loaded_kept told loaded same agree }
 
 both_hold : (a b : Bool) → a ≡ true → b ≡ true → (a && b) ≡ true
 both_hold a b h k = rw (h, k)
@@ -84,9 +79,9 @@ turn_lawful j now at u d first e h stamped =
     both_hold (nat_le (last_stamp (lawful j)) at) (may_stand (lawful j) at (MailTurn u)) (not_below (last_stamp (lawful j)) now at stamped)
     (ap (λ o. option_map_or (λ d. d.user.0 == u.0 && nat_le d.due at) o false) first ∙ due_now u at d e h)
 
--- a restart is lawful as the first event
-pub restart_lawful : (j : List Stamped) (at : ℕ) → j ≡ [] → is_lawful_after j (record { at = at; event = Restart }) ≡ true
-restart_lawful j at e = ap (λ k. is_lawful_after k (record { at = at; event = Restart })) e ∙ (ap (λ k. past.is_lawful_after k (record { at = at; event = Restart })) IsLawful-nil ∙ both_hold (nat_le 0 at) true (grind (arith, nat_tests)) refl)
+-- a restart is lawful at a stamp that is not below the last one
+pub restart_lawful : (j : List Stamped) (now at : ℕ) → at ≡ stamp j now → is_lawful_after j (record { at = at; event = Restart }) ≡ true
+restart_lawful j now at stamped = both_hold (nat_le (last_stamp (lawful j)) at) true (not_below (last_stamp (lawful j)) now at stamped) refl
 
 pub no_refusal : (o : Option Refusal) → ((n : Refusal) → o ≡ Some n → ⊥) → o ≡ None
 no_refusal None h = refl

@@ -1,2 +1,4 @@
+pub mod Difference
 pub mod Office
+pub mod Deals
 pub mod Faults

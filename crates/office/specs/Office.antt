@@ -1,12 +1,14 @@
 -- What an office is seen as, and what its calls answer.
 use Rattle.std.specs.Prelude.{◌≡◌, ℕ, ◌+◌, ◌<◌, ◌≤◌, List, [], ◌∷◌, ◌++◌, Option, Some, IfSome, option_map, length}
 use Rattle.chat_model.specs.declared.event.Stamped.{Stamped}
-use Rattle.chat_model.specs.declared.event.Event.TheVariants.{MailTurn}
+use Rattle.chat_model.specs.declared.event.Event.TheVariants.{Restart, MailTurn}
+use Rattle.chat_model.specs.declared.row.Row.{Row}
 use Rattle.keeper.specs.declared.keeper.Kept.{Kept}
 use Rattle.notice_ledger.specs.Due.{DueUser, batch_rows, first_due}
 use Rattle.notice_ledger.specs.Outbox.{mail_entries}
 use Rattle.notice_ledger.specs.Rows.{rows}
-use Rattle.notice_ledger.specs.Lawful.{IsLawful}
+use Rattle.notice_ledger.specs.Journal.{stamp}
+use Rattle.office.specs.Difference.{IsFirstDifference}
 use Rattle.office.specs.declared.answer.MailAnswer.{MailAnswer}
 use Rattle.office.specs.declared.answer.MailAnswer.TheVariants.{Mailed, NotDue}
 use Rattle.book_tables.specs.declared.tables.Tables.{Tables}
@@ -22,11 +24,23 @@ pub record OfficeSeen (K : Type 0) : Type 0 where
 abbrev pub KeptStandsFor : List Stamped → Kept → Type 0
 KeptStandsFor j kept = (kept.journal ≡ j) × (kept.rows ≡ rows j)
 
--- the journal is lawful, and the tables and what is kept, where that is told, stand for it
+-- the tables and what is kept, where that is told, stand for the journal
 pub record IsOffice (told : Option Kept) (j : List Stamped) (t : Tables) : Type 0 where
-  pub lawful : IsLawful j
   pub tables : StandsFor t j
   pub kept : IfSome told (KeptStandsFor j)
+
+-- an office has started over a journal, which stands for what is kept where that is told, and a restart follows it
+pub record HasStarted (told : Option Kept) (now : ℕ) (j : List Stamped) : Type 0 where
+  pub loaded : List Stamped
+  pub stands : IfSome told (KeptStandsFor loaded)
+  pub journal : j ≡ loaded ++ record { at = stamp loaded now; event = Restart } ∷ []
+
+-- what was loaded, which is what is kept where that is told, has rows that aren't those of its journal: these are the
+-- first in which they differ
+pub record HasDisagreed (told : Option Kept) (kept replayed : Option Row) : Type 0 where
+  pub loaded : Kept
+  pub is : IfSome told (λ k. loaded ≡ k)
+  pub first : IsFirstDifference loaded.rows (rows loaded.journal) kept replayed
 
 -- no due moment is at most the stamp
 abbrev pub NoneIsDue : List Stamped → ℕ → Type 0

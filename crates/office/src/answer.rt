@@ -1,17 +1,21 @@
 //! What the office answers, and why it cannot.
-use chat_model::{OutOfMemory, Refusal, UserId};
+use chat_model::{OutOfMemory, Refusal, Row, UserId};
 use keeper::KeepFault;
 use std::alloc::AllocError;
 
 /// Why an office could not start. The kept tables are as they were.
-#[derive(Clone, Copy, Debug, PartialEq, Eq)]
+#[derive(Debug, Drop)]
 pub enum StartFault {
     /// The keeper failed, and its count of faults rose.
     KeeperFault,
     /// Memory was wanted.
     OutOfMemory,
-    /// The keeper's journal or its rows are not empty.
-    NotEmpty,
+    /// A kept row differs from the replayed one. The first such pair by table and key is carried; where one side has
+    /// no row of that key, `None`.
+    Disagree {
+        kept: Option<Row>,
+        replayed: Option<Row>,
+    },
 }
 
 /// Why a request was not granted. The office is as it was.

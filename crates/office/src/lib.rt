@@ -2,9 +2,13 @@
 #![tactic(auto)]
 
 mod answer;
+mod difference;
+mod load;
 mod office;
+mod replay;
 #[cfg(test)]
 mod tests;
 
 pub use answer::{AskFault, MailAnswer, StartFault, StepFault};
+pub use load::kept_journal;
 pub use office::Office;

@@ -1,19 +1,23 @@
 //! The office: it adds lawful events to the journal, keeps them, and follows them with its tables.
-ghost use Rattle.std.specs.Prelude.{◌≡◌, ℕ, ◌+◌, ◌≤◌, ◌<◌, ◌↔◌, [], ◌∷◌, ◌++◌, length, true, max, IfOk, IfErr, IfSome, OnOk, OnErr, Option, Some, None, List, option_map, is_some};
+ghost use Rattle.std.specs.Prelude.{◌≡◌, ℕ, ◌+◌, ◌≤◌, ◌<◌, ◌↔◌, [], ◌∷◌, ◌++◌, length, true, max, IfOk, IfErr, IfSome, IsNone, OnOk, OnErr, Ok, Option, Some, None, List, option_map, is_some};
 ghost use Rattle.chat_model.specs.Counts.{HasRisen};
 ghost use Rattle.chat_model.specs.declared.event.Event.TheVariants.{Restart, Asked};
 ghost use Rattle.chat_model.specs.declared.request.Refusal.{Refusal};
-ghost use Rattle.notice_ledger.specs.Journal.{stamp};
+ghost use Rattle.chat_model.specs.declared.row.Row.{Row};
+ghost use Rattle.notice_ledger.specs.Journal.{stamp, last_stamp};
 ghost use Rattle.notice_ledger.specs.Refusals.{refusal};
 ghost use Rattle.notice_ledger.specs.InOrder.{in_order};
-ghost use Rattle.notice_ledger.specs.Lawful.{IsLawful, is_lawful_after};
+ghost use Rattle.notice_ledger.specs.Lawful.{is_lawful_after};
 ghost use Rattle.notice_ledger.specs.Conserved.{IsConserved};
-ghost use Rattle.office.specs.Office.{IsOffice, KeptStandsFor};
+ghost use Rattle.office.specs.Office.{IsOffice, KeptStandsFor, HasStarted, HasDisagreed};
 ghost use Rattle.office.specs.Faults.{faults_in_step, faults_in_ask, faults_in_start};
 
+use crate::load::{Replayed, load_kept};
 use crate::{AskFault, MailAnswer, StartFault, StepFault};
 use book_tables::{DueUser, Tables};
-use chat_model::{Answer, Counts, Event, Moment, Refusal, Request, Stamped, UserId};
+use chat_model::{
+    Answer, Counts, Deal, DealNo, Event, Moment, OutOfMemory, Refusal, Request, Stamped, UserId,
+};
 use keeper::Keeper;
 use notice_ledger::in_order;
 use std::alloc::Global;
@@ -35,6 +39,13 @@ impl<K: Keeper> Model for Office<K> {
     ghost view = { λ o. record { journal = o.journal.items; keeper = o.keeper } };
 
     ghost invariant = { λ o. IsOffice (K.kept o.keeper) o.journal.items o.tables };
+}
+
+/// The later of two moments.
+fn later(a: Moment, b: Moment) -> Moment
+    ensures { result ≡ max a b }
+{
+    if a < b { b } else { a }
 }
 
 /// Keeps an event and follows it. A fault or want of memory changes nothing.
@@ -71,32 +82,29 @@ impl<K: Keeper> Office<K> {
     ghost use Rattle.notice_ledger.specs.Due.{first_due, batch_rows};
     ghost use Rattle.notice_ledger.specs.Outbox.{outbox};
     ghost use Rattle.notice_ledger.specs.Audit.{counts_of};
+    ghost use Rattle.notice_ledger.specs.Journal.{deal_count};
+    ghost use Rattle.notice_ledger.specs.Deals.{deal, knows, run_number};
+    ghost use Rattle.office.specs.Deals.{CanBeDealt};
 
-    /// Loads what is kept, which has to be empty, and keeps the first event, a restart. Each fault hands the keeper
-    /// back.
+    /// Loads what is kept, replays its journal, and keeps a restart, stamped with the greater of the moment and the last
+    /// stamp. The kept rows have to be those of the journal. Each fault hands the keeper back.
     pub fn start(alloc: Global, keeper: K, now: Moment) -> Result<Office<K>, (StartFault, K)>
-        ensures ok { IfOk result (λ o. o.journal ≡ record { at = now; event = Restart } ∷ []) }
-        ensures was_empty { IfOk result (λ o. IfSome (K.kept keeper) (λ kept. (kept.journal ≡ []) × (kept.rows ≡ []))) }
+        ensures ok { IfOk result (λ o. HasStarted (K.kept keeper) now o.journal) }
         ensures err { IfErr result (λ e. K.kept e.1 ≡ K.kept keeper) }
         ensures fault { IfErr result (λ e. e.0 ≡ StartFault.KeeperFault → HasRisen (K.faults keeper) (K.faults e.1)) }
-        ensures not_empty { IfErr result (λ e. e.0 ≡ StartFault.NotEmpty → IfSome (K.kept keeper) (λ kept. 0 < length kept.journal + length kept.rows)) }
+        ensures disagree { IfErr result (λ e. (kept replayed : Option Row) → e.0 ≡ StartFault.Disagree kept replayed → HasDisagreed (K.kept keeper) kept replayed) }
         ensures told { IfOk result (λ o. is_some (K.kept o.keeper) ≡ is_some (K.kept keeper)) }
         ensures counted_ok { IfOk result (λ o. K.faults o.keeper ≡ K.faults keeper) }
         ensures counted_err { IfErr result (λ e. K.faults keeper ≤ K.faults e.1) }
         ensures most { IfErr result (λ e. K.faults e.1 ≤ K.faults keeper + faults_in_start e.0) }
     {
         let mut keeper = keeper;
-        let kept = match keeper.load() {
-            Ok(kept) => kept,
-            Err(fault) => return Err((StartFault::from(StepFault::from(fault)), keeper)),
+        let (mut journal, mut tables) = match load_kept(alloc, &mut keeper) {
+            Ok(Replayed { journal, tables }) => (journal, tables),
+            Err(fault) => return Err((fault, keeper)),
         };
-        if !kept.journal.is_empty() || !kept.rows.is_empty() {
-            return Err((StartFault::NotEmpty, keeper));
-        }
-        let mut tables = Tables::new(alloc);
-        let mut journal = Vec::new(alloc);
         let first = Stamped {
-            at: now,
+            at: later(now, tables.last_stamp()),
             event: Event::Restart,
         };
         match record_event(&mut keeper, &mut journal, &mut tables, first) {
@@ -112,11 +120,17 @@ impl<K: Keeper> Office<K> {
     /// Ends the office and gives the keeper back.
     pub fn close(self) -> K
         ensures keeper { result ≡ self.keeper }
-        ensures lawful { IsLawful self.journal }
         ensures kept { IfSome (K.kept result) (KeptStandsFor self.journal) }
         ensures conserved { IfSome (K.kept result) (λ kept. IsConserved kept.journal kept.rows) }
     {
         self.keeper
+    }
+
+    /// The stamp of the last lawful event.
+    pub fn last_stamp(&self) -> Moment
+        ensures { result ≡ last_stamp self.now.journal }
+    {
+        self.tables.last_stamp()
     }
 
     /// Lends the journal, the oldest event first.
@@ -133,12 +147,46 @@ impl<K: Keeper> Office<K> {
         self.tables.audit()
     }
 
+    /// How often the office was started, which is the number of its run. A count above 2^64 - 1 is given as 2^64 - 1.
+    pub fn run_number(&self) -> u64
+        ensures { result ≡ run_number self.now.journal }
+    {
+        self.tables.starts()
+    }
+
+    /// How many deals there are, which is the number of the next one.
+    pub fn deal_count(&self) -> DealNo
+        ensures { result.0 ≡ deal_count self.now.journal }
+    {
+        self.tables.deals()
+    }
+
+    /// Whether there is a user of that number.
+    pub fn knows(&self, user: UserId) -> bool
+        ensures { result ≡ knows self.now.journal user }
+    {
+        self.tables.knows(user)
+    }
+
+    /// A copy of the deal of a number, for the hub.
+    pub fn next_deal(&self, number: DealNo) -> Result<Option<Deal>, OutOfMemory>
+        ensures deal { IfOk result (λ found. found ≡ deal self.now.journal number) }
+        ensures can_be_dealt { IfOk result (λ found. IfSome found (CanBeDealt number)) }
+        ensures some { IfOk result (λ found. IsNone found → deal_count self.now.journal ≤ number.0) }
+        // Where there is none it takes no memory, so the answer is promised.
+        ensures none { deal_count self.now.journal ≤ number.0 → result ≡ Ok None }
+    {
+        match self.tables.deal(number) {
+            Some(deal) => Ok(Some(deal.copy(*self.journal.allocator())?)),
+            None => Ok(None),
+        }
+    }
+
     /// The stamp of what is asked at a moment: the greater of the moment and the last stamp.
     fn stamp(&self, now: Moment) -> Moment
         ensures { result ≡ stamp self.now.journal now }
     {
-        let last = self.tables.last_stamp();
-        if now < last { last } else { now }
+        later(now, self.tables.last_stamp())
     }
 
     /// Why the request is refused.

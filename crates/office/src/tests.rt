@@ -1,10 +1,11 @@
 //! The office with ample memory, over a keeper in memory.
 use crate::{AskFault, MailAnswer, Office, StartFault, StepFault};
 use chat_model::{
-    Answer, ChannelId, Counts, DealNo, Entry, Event, GroupId, List, MessageId, Moment, Refusal,
-    Request, Row, Stamped, Text, UserId,
+    Answer, ChannelId, Conversation, Counts, DealNo, Entry, EntryNo, Event, GroupId, List,
+    MessageId, Moment, Refusal, Request, Row, RowChange, RowKey, Settings, Stage, Stamped, Text,
+    Trigger, UserId, Way, change_all,
 };
-use keeper::{Keeper, MemoryKeeper};
+use keeper::{Keeper, Kept, MemoryKeeper};
 use notice_ledger::audit;
 use std::alloc::Global;
 use std::process::Abort;
@@ -307,17 +308,193 @@ fn a_failed_commit_leaves_the_journal_the_counts_and_what_is_kept(
     Ok(())
 }
 
-#[test]
-fn a_kept_journal_is_not_empty(rt: HostRuntime) -> Result<(), Fail> {
-    let alloc = rt.alloc();
-    let office = team(&rt, alloc, List::new(alloc))?;
-    match Office::start(alloc, office.close(), moment(&rt, 0)) {
-        Ok(_) => Err(Fail::from("started")),
-        Err((fault, _)) => {
-            assert_eq!(rt; fault, StartFault::NotEmpty);
-            Ok(())
-        }
+// What a run keeps that sent one mention at 100 and mailed it at 220: eight events and five rows.
+fn mailed_once(rt: &impl Abort, alloc: Global) -> Result<MemoryKeeper, Fail> {
+    let mut office = team(rt, alloc, List::new(alloc))?;
+    let sent = office.ask(send(alloc, 1, 1)?, moment(rt, 100));
+    assert!(rt; sent.is_ok());
+    let mailed = office.mail_turn(moment(rt, 220));
+    assert!(rt; mailed.is_ok());
+    Ok(office.close())
+}
+
+// The second run answers as one run would with a restart between.
+fn goes_on(rt: &impl Abort, alloc: Global, keeper: MemoryKeeper) -> Result<(), Fail> {
+    let Ok(mut office) = Office::start(alloc, keeper, moment(rt, 0)) else {
+        return Err(Fail::from("no start"));
+    };
+    assert_eq!(rt; office.last_stamp(), moment(rt, 220));
+    assert_eq!(rt; office.audit(), counts(1, 1));
+    assert_eq!(rt; audit(alloc, office.journal())?, office.audit());
+    let cy = office.ask(add_user(alloc, "Cy")?, moment(rt, 230));
+    assert_eq!(rt; cy, Ok(Answer::User(UserId(3))));
+    let sent = office.ask(send(alloc, 1, 1)?, moment(rt, 230));
+    let message = MessageId(2);
+    let deal = DealNo(1);
+    assert_eq!(rt; sent, Ok(Answer::Sent { message, deal }));
+    let early = office.mail_turn(moment(rt, 240));
+    assert_eq!(rt; early, Ok(MailAnswer::NotDue(Some(350))));
+    let due = office.mail_turn(moment(rt, 350));
+    let mailed = MailAnswer::Mailed {
+        user: UserId(2),
+        entries: 1,
+        dropped: 0,
+    };
+    assert_eq!(rt; due, Ok(mailed));
+    let third = Office::start(alloc, office.close(), moment(rt, 0));
+    assert!(rt; third.is_ok());
+    Ok(())
+}
+
+fn keep_unlawful(
+    rt: &impl Abort,
+    alloc: Global,
+    keeper: &mut MemoryKeeper,
+    seconds: u64,
+    event: Event,
+) -> Result<(), Fail> {
+    let at = moment(rt, seconds);
+    let no_change: Vec<RowChange> = Vec::new(alloc);
+    match keeper.commit(&Stamped { at, event }, no_change.as_slice()) {
+        Ok(()) => Ok(()),
+        Err(_) => Err(Fail::from("no commit")),
     }
+}
+
+#[test]
+fn a_second_run_goes_on_where_the_first_ended(rt: HostRuntime) -> Result<(), Fail> {
+    let alloc = rt.alloc();
+    goes_on(&rt, alloc, mailed_once(&rt, alloc)?)?;
+    // Neither event is lawful: the one comes before the last, and nothing is due at the other.
+    let mut keeper = mailed_once(&rt, alloc)?;
+    keep_unlawful(&rt, alloc, &mut keeper, 219, Event::Restart)?;
+    keep_unlawful(&rt, alloc, &mut keeper, 900, Event::MailTurn(UserId(2)))?;
+    goes_on(&rt, alloc, keeper)
+}
+
+// A keeper that keeps the same journal, and rows that were changed by hand.
+fn by_hand(
+    alloc: Global,
+    mut keeper: MemoryKeeper,
+    changes: Vec<RowChange>,
+) -> Result<MemoryKeeper, Fail> {
+    let Ok(kept) = keeper.load() else {
+        return Err(Fail::from("no load"));
+    };
+    let mut rows = kept.rows.into_vec();
+    rows.reserve(changes.len())?;
+    change_all(&mut rows, changes);
+    let journal = kept.journal;
+    let rows = List::from(rows);
+    Ok(MemoryKeeper::holding(alloc, Kept { journal, rows }))
+}
+
+// The keys of the two rows with which a start disagrees. What is kept stays.
+fn disagreement(
+    rt: &impl Abort,
+    alloc: Global,
+    changes: Vec<RowChange>,
+) -> Result<(Option<RowKey>, Option<RowKey>), Fail> {
+    let keeper = by_hand(alloc, mailed_once(rt, alloc)?, changes)?;
+    let Err((fault, mut keeper)) = Office::start(alloc, keeper, moment(rt, 300)) else {
+        return Err(Fail::from("started"));
+    };
+    match keeper.load() {
+        Ok(unchanged) => assert_eq!(rt; unchanged.journal.len(), 8),
+        Err(_) => panic!(rt; "what is kept was not loaded"),
+    }
+    match fault {
+        StartFault::Disagree { kept, replayed } => Ok((key_of(&kept), key_of(&replayed))),
+        _ => Err(Fail::from("no disagreement")),
+    }
+}
+
+fn key_of(row: &Option<Row>) -> Option<RowKey> {
+    match row {
+        Some(row) => Some(row.key()),
+        None => None,
+    }
+}
+
+fn ada(alloc: Global, number: u64, period: u64) -> Result<RowChange, Fail> {
+    let mut settings = Settings::default();
+    settings.period = period;
+    Ok(RowChange::Put(Row::User {
+        id: UserId(number),
+        name: Text::from_str(alloc, "Ada")?,
+        bot: false,
+        settings,
+    }))
+}
+
+fn sent(alloc: Global, number: u64) -> Result<RowChange, Fail> {
+    Ok(RowChange::Put(Row::Message {
+        id: MessageId(number),
+        sender: UserId(1),
+        text: Text::from_str(alloc, "hi @**Ben**")?,
+        deleted: false,
+    }))
+}
+
+fn push_to_ben(trigger: Trigger) -> RowChange {
+    RowChange::Put(Row::Pending {
+        user: UserId(2),
+        message: MessageId(1),
+        way: Way::Push,
+        trigger,
+        deal: DealNo(0),
+        stage: Stage::Ready,
+    })
+}
+
+fn mail_without_items(alloc: Global, at: Moment) -> Result<RowChange, Fail> {
+    Ok(RowChange::Put(Row::Outbox {
+        number: EntryNo(1),
+        entry: Entry::Mail {
+            user: UserId(2),
+            name: Text::from_str(alloc, "Ben")?,
+            at,
+            conversation: Conversation::Channel {
+                channel: ChannelId(1),
+                name: Text::from_str(alloc, "team")?,
+                topic: Text::from_str(alloc, "lunch")?,
+            },
+            items: List::new(alloc),
+        },
+        spooled: false,
+    }))
+}
+
+#[test]
+fn a_start_disagrees_with_rows_changed_by_hand(rt: HostRuntime) -> Result<(), Fail> {
+    let alloc = rt.alloc();
+    let push = RowKey::Pending(UserId(2), MessageId(1), Way::Push);
+    let first = RowKey::User(UserId(1));
+    let third = RowKey::User(UserId(3));
+    let second_message = RowKey::Message(MessageId(2));
+    let entry = RowKey::Outbox(EntryNo(1));
+    let mut cases = Vec::new(alloc);
+    // A row too few, a row too many, and another row of the same key.
+    let removed = vec![in alloc; RowChange::Remove(push)]?;
+    cases.push((removed, None, Some(push)))?;
+    let one_more = vec![in alloc; sent(alloc, 2)?]?;
+    cases.push((one_more, Some(second_message), None))?;
+    let trigger = vec![in alloc; push_to_ben(Trigger::Direct)]?;
+    cases.push((trigger, Some(push), Some(push)))?;
+    let settings = vec![in alloc; ada(alloc, 1, 300)?]?;
+    cases.push((settings, Some(first), Some(first)))?;
+    let no_items = vec![in alloc; mail_without_items(alloc, moment(&rt, 220))?]?;
+    cases.push((no_items, Some(entry), Some(entry)))?;
+    // Of several differences the first by table and key.
+    let mut several = Vec::new(alloc);
+    several.push(RowChange::Remove(entry))?;
+    several.push(RowChange::Remove(push))?;
+    several.push(ada(alloc, 3, 120)?)?;
+    cases.push((several, Some(third), None))?;
+    for (changes, kept, replayed) in cases {
+        assert_eq!(rt; disagreement(&rt, alloc, changes)?, (kept, replayed));
+    }
+    Ok(())
 }
 
 // Asks, or makes a mail turn where nothing is asked. The slow computation counts then what the office counts.

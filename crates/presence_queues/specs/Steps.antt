@@ -1,6 +1,7 @@
 -- The steps of a hub: what each call leaves of it, and what it answers. All that isn't named stays.
 use Rattle.std.specs.Prelude.{◌≡◌, ◌≢◌, ℕ, ◌+◌, ◌≤◌, ◌==◌, Bool, false, not, ◌&&◌, List, [], ◌∷◌, ◌++◌, Option, None, Some, IsSomeAnd, filter, length, map, max, nat_le, if◌then◌else◌}
-use Rattle.std.specs.List.{list_any}
+use Rattle.std.specs.List.{list_any, slice_get}
+use Rattle.std.specs.Option.{option_to_list}
 use Rattle.chat_model.specs.declared.ids.DealNo.{DealNo}
 use Rattle.chat_model.specs.declared.ids.UserId.{UserId}
 use Rattle.chat_model.specs.declared.deal.Deal.{Deal}
@@ -154,3 +155,10 @@ next_overdue hub = least (map (λ q. q.poll + 601) hub.queues)
 abbrev pub IsSwept : ℕ → HubSeen → SweepAnswer → HubSeen → Type 0
 IsSwept now hub (Ended u queues) after = (overdue_user hub now ≡ Some u.0) × (queues ≡ length (filter (is_swept u now) hub.queues)) × (after ≡ ended u (is_swept u now) hub)
 IsSwept now hub (NoneOverdue next) after = (overdue_user hub now ≡ None) × (next ≡ next_overdue hub) × (after ≡ hub)
+
+-- ---- take
+
+-- the next outcome is taken from the hub's pipe, if there is one; so none is exactly where all were taken
+pub record IsTaken (before : HubSeen) (answer : Option Outcome) (after : HubSeen) : Type 0 where
+  pub is : answer ≡ slice_get before.sent (length before.taken)
+  pub left : after ≡ record before { taken = before.taken ++ option_to_list answer }

@@ -1,11 +1,11 @@
 //! The hub: client queues, presence, and what becomes of each deal.
-ghost use Rattle.std.specs.Prelude.{◌≡◌, ◌≢◌, ℕ, ◌+◌, ◌-◌, ◌<◌, ◌^◌, ◌==◌, ◌&&◌, ◌↔◌, nat_le, [], true, false, None, All, IfOk, OnOk, OnErr, IsSomeAnd, length, map, option_map};
+ghost use Rattle.std.specs.Prelude.{◌≡◌, ◌≢◌, ℕ, ◌+◌, ◌++◌, ◌-◌, ◌<◌, ◌^◌, ◌==◌, ◌&&◌, ◌↔◌, nat_le, [], true, false, None, All, IfOk, OnOk, OnErr, IsSomeAnd, length, map, option_map};
 ghost use Rattle.chat_model.specs.Ascending.{is_ascending_by};
 ghost use Rattle.std.specs.List.{list_any};
-ghost use Rattle.std.specs.Option.{option_copied};
+ghost use Rattle.std.specs.Option.{option_copied, option_to_list};
 ghost use Rattle.presence_queues.specs.Hub.{is_of, is_overdue, queue_at, verdict, verdicts};
 ghost use Rattle.presence_queues.specs.Fields.{ends_by, queue_of};
-ghost use Rattle.presence_queues.specs.Steps.{IsAcked, IsDealt, IsLeft, IsPastNext, IsSwept, beaten, ended, new_hub, next_overdue, registered};
+ghost use Rattle.presence_queues.specs.Steps.{IsAcked, IsDealt, IsLeft, IsPastNext, IsSwept, IsTaken, beaten, ended, new_hub, next_overdue, registered};
 
 use crate::beats::{Beat, is_recent, record_beat};
 use crate::ending::Ending;
@@ -16,8 +16,10 @@ use crate::queues::{
 };
 use crate::sender::Sender;
 use crate::{DealAnswer, HubFault, QueueItem, SweepAnswer};
-use chat_model::{Deal, DealNo, List, Moment, OutOfMemory, QueueId, UserId, UserVerdict, Verdict};
-use missed_hook::Post;
+use chat_model::{
+    Deal, DealNo, List, Moment, OutOfMemory, Outcome, QueueId, UserId, UserVerdict, Verdict,
+};
+use missed_hook::{PlainPipe, Post, Take};
 use std::alloc::Global;
 use std::marker::Model;
 
@@ -272,5 +274,18 @@ impl<T: Post> Hub<T> {
         let queues = count_ending(&self.queues, &ending);
         self.end(user, &ending)?;
         Ok(SweepAnswer::Ended { user, queues })
+    }
+}
+
+impl Take for Hub<PlainPipe> {
+    ghost taken = { λ h. h.taken };
+
+    ghost took = { λ before answer after. IsTaken before answer after };
+
+    fn take(&mut self) -> Option<Outcome>
+        ensures taken { self.new.taken ≡ self.old.taken ++ option_to_list result }
+        ensures took { IsTaken self.old result self.new }
+    {
+        self.sender.take()
     }
 }

@@ -3,11 +3,12 @@ ghost use Rattle.std.specs.Prelude.{◌≡◌, [], ◌∷◌, ◌++◌, IfOk, On
 ghost use Rattle.chat_model.specs.declared.deal.Outcome.TheVariants.{Dealt};
 ghost use Rattle.missed_hook.specs.Orderly.{IsOrderly};
 ghost use Rattle.missed_hook.specs.Outstanding.{outstanding};
+ghost use Rattle.missed_hook.specs.Passed.{TakesNext};
 ghost use Rattle.presence_queues.specs.Steps.{and_sent, outcome_by};
 
 use crate::waiting::{Waiting, add_live, deals_of, enter_live, forget, reserve_live};
 use chat_model::{DealNo, List, OutOfMemory, Outcome, QueueId, UserId, UserVerdict};
-use missed_hook::Post;
+use missed_hook::{PlainPipe, Post, Take};
 use std::alloc::Global;
 use std::marker::Model;
 
@@ -112,5 +113,14 @@ impl<T: Post> Sender<T> {
         }
         forget(&mut self.waiting, user, gone);
         Ok(())
+    }
+}
+
+impl Sender<PlainPipe> {
+    /// Takes the next outcome, if there is one.
+    pub fn take(&mut self) -> Option<Outcome>
+        ensures { TakesNext self.old result self.new }
+    {
+        self.pipe.take()
     }
 }

@@ -32,6 +32,6 @@ returns-clause-office g c =
     let p = c.in_ok-prepared.prepared in let stands = c.requires.office.tables in
     subst (λ (x : List Stamped). IsOffice (g.K.Keeper.kept c.commit.new.self) x c.apply.new.self) (sym (c.push_reserved.ensures.items ∙ ap (λ x. x ++ s ∷ []) c.reserve-2.ensures.items))
     (subst (λ (k : Option Kept). IsOffice k (j ++ s ∷ []) c.apply.new.self) (sym (c.in_ok-commit.ensures.ok ∙ ap (λ (x : List RowChange). option_map (committed s x) told) c.changes.ensures))
-    (office_after c.args.tables.now c.apply.new.self j s told (changes_of p) c.requires.lawful c.requires.office
+    (office_after c.args.tables.now c.apply.new.self j s told (changes_of p) c.requires.office
     (c.in_ok-prepared.ensures.changes j stands c.requires.lawful)
     (c.apply.ensures j s (c.reserve.ensures.same j stands) c.requires.lawful (c.in_ok-prepared.ensures.prepared j stands))))

@@ -22,5 +22,6 @@ returns-in-Mailed c =
       subscribers = refl;
       messages = refl;
       waiting = filter_same _ (λ (w : Waiting). not (is_mail_to c.in-Mailed.user w)) _ (λ x b f k. search rules) old.waiting.items c.retain.new.self.items c.retain.ensures.filtered;
+      deals = refl;
       outbox = c.append-in-Mailed.ensures.items ∙ ap (λ r. if is_ok r then old.outbox.items ++ c.in-Mailed.entries.items else old.outbox.items) c.unwrap-in-Mailed.ensures;
     })

@@ -20,7 +20,8 @@ returns c =
       subscribers = c.new-7.result;
       messages = c.new-8.result;
       waiting = c.new-9.result;
-      outbox = c.new-10.result;
+      deals = c.new-10.result;
+      outbox = c.new-11.result;
     } in
     subst (λ (j : List Stamped). Holds t j) (sym IsLawful-nil)
-    (empty_stands t c.in-Some.ensures.value refl c.new-2.ensures.items c.new-3.ensures.items c.new-4.ensures.items c.new-5.ensures.items c.new-6.ensures.items c.new-7.ensures.items c.new-8.ensures.items c.new-9.ensures.items c.new-10.ensures.items)
+    (empty_stands t c.in-Some.ensures.value refl c.new-2.ensures.items c.new-3.ensures.items c.new-4.ensures.items c.new-5.ensures.items c.new-6.ensures.items c.new-7.ensures.items c.new-8.ensures.items c.new-9.ensures.items c.new-10.ensures.items c.new-11.ensures.items)

@@ -1,0 +1,111 @@
+-- Rows that are made of a list, one by one.
+use Rattle.std.proofs.Common.{◌≡◌, ℕ, zero, suc, ◌+◌, ◌<◌, List, [], ◌∷◌, ◌++◌, length, map, take, get_or, refl, sym, ap, ◌∙◌, add-zero, append_assoc, arith}
+use Rattle.std.specs.Prelude.{Some, None, false, slice_get}
+use Rattle.std.specs.Option.{option_map_or}
+use Rattle.std.specs.List.{filter_map}
+use Rattle.std.proofs.lemmas.List.{map-append}
+use Rattle.chat_model.specs.declared.event.Stamped.{Stamped}
+use Rattle.chat_model.specs.declared.ids.UserId.{UserId}
+use Rattle.chat_model.specs.declared.mentions.UserName.{UserName}
+use Rattle.chat_model.specs.declared.row.Row.{Row}
+use Rattle.chat_model.specs.declared.row.Row.TheVariants as row
+use Rattle.chat_model.specs.declared.row.RowChange.{RowChange}
+use Rattle.chat_model.specs.declared.row.RowChange.TheVariants.{Put}
+use Rattle.chat_model.specs.declared.entry.Entry.{Entry}
+use Rattle.chat_model.specs.Rows.{changed_all}
+use Rattle.notice_ledger.specs.Past.Values.{numbered, Person, people, named_from, SentMessage, messages, is_bot, settings}
+use Rattle.notice_ledger.specs.Past.Owed.{Notice, notices, waiting}
+use Rattle.notice_ledger.specs.Past.Outbox.{outbox}
+use Rattle.notice_ledger.specs.Past.Rows.{user_rows_from, message_rows_from, outbox_rows_from, pending_row, rows}
+use Rattle.notice_ledger.proofs.RowOrder.{rows-changed_all}
+use Rattle.book_tables.specs.declared.tables.Tables.{Tables}
+use Rattle.book_tables.specs.Tables.{Holds, notice_kept}
+use Rattle.book_tables.specs.Changes.{waiting_row}
+use Rattle.book_tables.specs.Prepared.{notice_row}
+use Rattle.book_tables.proofs.PendingRows.{pending_rows-waiting}
+
+-- the rows of a list, the first with this number
+abbrev pub rows_by : {A : Type 0} → (ℕ → A → Row) → ℕ → List A → List Row
+rows_by f n [] = []
+rows_by f n (x ∷ xs) = f n x ∷ rows_by f (n + 1) xs
+
+pub rows_by-long : {A : Type 0} (f : ℕ → A → Row) (n : ℕ) (xs : List A) → length (rows_by f n xs) ≡ length xs
+rows_by-long f n [] = refl
+rows_by-long f n (x ∷ xs) = ap suc (rows_by-long f (n + 1) xs)
+
+-- the rows up to the next one
+pub rows_by-next : {A : Type 0} (f : ℕ → A → Row) (n : ℕ) (xs : List A) (i : ℕ) (x : A) → slice_get xs i ≡ Some x → take (i + 1) (rows_by f n xs) ≡ take i (rows_by f n xs) ++ f (n + i) x ∷ []
+rows_by-next f n [] i x e = absurd (cc)
+rows_by-next f n (y ∷ ys) zero x e =
+    let same : y ≡ x = cc in
+    ap (λ z. f n z ∷ []) same ∙ ap (λ k. f k x ∷ []) (sym (add-zero n))
+rows_by-next f n (y ∷ ys) (suc i) x e =
+    let step : suc i + 1 ≡ suc (i + 1) = omega arith in
+    let on : (n + 1) + i ≡ n + suc i = omega arith in
+    ap (λ k. take k (rows_by f n (y ∷ ys))) step
+    ∙ (ap (λ rs. f n y ∷ rs) (rows_by-next f (n + 1) ys i x e) ∙ ap (λ k. f n y ∷ (take i (rows_by f (n + 1) ys) ++ f k x ∷ [])) on)
+
+-- ---- users
+
+abbrev pub user_row : List Stamped → ℕ → Person → Row
+user_row past n p = row.User (record { 0 = n }) p.name p.bot (settings past (record { 0 = n }))
+
+pub user_rows-by : (past : List Stamped) (n : ℕ) (ps : List Person) → user_rows_from past n ps ≡ rows_by (user_row past) n ps
+user_rows-by past n [] = refl
+user_rows-by past n (p ∷ ps) = ap (λ rs. user_row past n p ∷ rs) (user_rows-by past (n + 1) ps)
+
+-- the user at a place
+pub record IsNamed (n i : ℕ) (ps : List Person) (x : UserName) : Type 0 where
+  pub person : Person
+  pub id : x.id.0 ≡ n + i
+  pub name : x.name ≡ person.name
+  pub at : slice_get ps i ≡ Some person
+
+pub named_at : (n : ℕ) (ps : List Person) (i : ℕ) (x : UserName) → i < length ps → x ≡ get_or (named_from n ps) i x → IsNamed n i ps x
+named_at n [] i x lt e = absurd (omega arith)
+named_at n (p ∷ ps) zero x lt e = record { person = p; id = ap (λ (u : UserName). u.id.0) e ∙ sym (add-zero n); name = ap (λ (u : UserName). u.name) e; at = refl }
+named_at n (p ∷ ps) (suc i) x lt e =
+    let rest = named_at (n + 1) ps i x (omega arith) e in
+    record { person = rest.person; id = omega (arith, rest.id); name = rest.name; at = rest.at }
+
+-- whether it is a bot
+pub bot_at : (past : List Stamped) (i : ℕ) (u : UserId) (p : Person) → u.0 ≡ 1 + i → slice_get (people past) i ≡ Some p → is_bot past u ≡ p.bot
+bot_at past i u p id at =
+    let next : u.0 ≡ suc i = omega arith in
+    ap (λ n. option_map_or (λ (q : Person). q.bot) (numbered n (people past)) false) next ∙ ap (λ o. option_map_or (λ (q : Person). q.bot) o false) at
+
+-- ---- messages
+
+abbrev pub message_row : ℕ → SentMessage → Row
+message_row n m = row.Message (record { 0 = n }) m.sender m.text false
+
+pub message_rows-by : (n : ℕ) (ms : List SentMessage) → message_rows_from n ms ≡ rows_by message_row n ms
+message_rows-by n [] = refl
+message_rows-by n (m ∷ ms) = ap (λ rs. message_row n m ∷ rs) (message_rows-by (n + 1) ms)
+
+-- ---- all rows
+
+-- the puts of the notices that wait
+notices_put : (ns : List Notice) → map (λ w. Put (notice_row w)) (map notice_kept ns) ≡ map Put (map waiting_row ns)
+notices_put [] = refl
+notices_put (n ∷ ns) = ap (λ cs. Put (waiting_row n) ∷ cs) (notices_put ns)
+
+joined : (us ms ps os : List Row) → ((map Put us ++ map Put ms) ++ map Put ps) ++ map Put os ≡ map Put (us ++ (ms ++ (ps ++ os)))
+joined us ms ps os = simp (append_assoc, map-append)
+
+-- the puts of everything that has a row, table by table, make the rows
+pub rows_put : (t : Tables) (past : List Stamped) → Holds t past → (users all waits entries : List RowChange) → users ≡ map Put (user_rows_from past 1 (people past)) → all ≡ users ++ map Put (message_rows_from 1 (messages past))
+    → waits ≡ all ++ map (λ w. Put (notice_row w)) t.waiting.items → entries ≡ waits ++ map Put (outbox_rows_from 1 t.outbox.items) → changed_all entries [] ≡ rows past
+rows_put t past h users all waits entries are_users are_messages are_waits are_entries =
+    let us = user_rows_from past 1 (people past) in let ms = message_rows_from 1 (messages past) in let ps = map waiting_row (waiting past) in let os = outbox_rows_from 1 (outbox past) in
+    let put_messages : all ≡ map Put us ++ map Put ms = are_messages ∙ ap (λ (cs : List RowChange). cs ++ map Put ms) are_users in
+    let put_waits : waits ≡ (map Put us ++ map Put ms) ++ map Put ps =
+    are_waits
+    ∙ (ap (λ (cs : List RowChange). cs ++ map (λ w. Put (notice_row w)) t.waiting.items) put_messages
+    ∙ ap (λ (cs : List RowChange). (map Put us ++ map Put ms) ++ cs) (ap (map (λ w. Put (notice_row w))) h.waiting ∙ notices_put (waiting past))) in
+    let put_entries : entries ≡ ((map Put us ++ map Put ms) ++ map Put ps) ++ map Put os =
+    are_entries
+    ∙ (ap (λ (cs : List RowChange). cs ++ map Put (outbox_rows_from 1 t.outbox.items)) put_waits
+    ∙ ap (λ (es : List Entry). ((map Put us ++ map Put ms) ++ map Put ps) ++ map Put (outbox_rows_from 1 es)) h.outbox) in
+    ap (λ (cs : List RowChange). changed_all cs []) (put_entries ∙ joined us ms ps os)
+    ∙ (ap (λ (rs : List Row). changed_all (map Put (us ++ (ms ++ (rs ++ os)))) []) (sym (pending_rows-waiting past)) ∙ sym (rows-changed_all past))
