@@ -1,50 +1,67 @@
--- Tables that stand for a journal stand for it with the next event, once its effect is made.
-use Rattle.std.proofs.Common.{add-zero, zero-add, ◌≡◌, ℕ, zero, suc, ◌+◌, ◌<◌, ◌≤◌, Bool, true, false, ◌&&◌, ◌==◌, cond, not, List, [], ◌∷◌, ◌++◌, length, map, refl, sym, ap, ◌∙◌, subst, arith, ⊎_elim, length-append}
-use Rattle.std.proofs.lemmas.List.Sums.{sum_by-append}
-use Rattle.std.specs.Prelude.{count_by, nat_le, ◌-◌, ◌^◌, min, Option, Some, None, option_to_list, is_some, is_none, nat_lt, slice_get, unwrap_or, filter, if◌then◌else◌}
+-- Tables that stand for a journal stand for it with the next event, once its effect is made: the effect makes of each table
+-- what the event makes of what the table holds.
+use Rattle.std.proofs.Common.{add-zero, ◌≡◌, ℕ, zero, suc, ◌+◌, ◌<◌, ◌≤◌, Bool, true, false, ◌&&◌, ◌==◌, cond, not, List, [], ◌∷◌, ◌++◌, length, map, refl, sym, ap, ◌∙◌, subst, arith, ⊎_elim, length-append}
+use Rattle.std.specs.Prelude.{count_by, nat_le, ◌-◌, ◌^◌, min, Option, Some, None, option_map, option_to_list, is_some, is_none, nat_lt, slice_get, unwrap_or, filter, if◌then◌else◌}
 use Rattle.std.specs.Option.{option_map_or}
 use Rattle.std.specs.List.{AllByRecursion, list_all}
 use Rattle.std.proofs.lemmas.List.{length-map, map-append, append-nil}
+use Rattle.std.proofs.lemmas.Bool.{and_parts}
 use Rattle.std.proofs.lemmas.Bool.Decides.{eqb_tells}
 use Rattle.chat_model.specs.declared.event.Stamped.{Stamped}
 use Rattle.chat_model.specs.declared.event.Event.{Event}
 use Rattle.chat_model.specs.declared.event.Event.TheVariants.{Restart, Asked, MailTurn}
-use Rattle.chat_model.specs.declared.request.Request.TheVariants.{AddUser, AddGroup, Member, AddChannel, Subscribe, Send}
+use Rattle.chat_model.specs.declared.request.Request.TheVariants.{AddUser, AddGroup, Member, AddChannel, Subscribe, Set, SetChannel, SetPolicy, Mute, Send, Direct}
 use Rattle.chat_model.specs.declared.request.Request.{Request}
 use Rattle.chat_model.specs.declared.request.Refusal.{Refusal}
-use Rattle.chat_model.specs.declared.request.Refusal.TheVariants.{NoUser, NoChannel, NoGroup, Exists, TooMany}
+use Rattle.chat_model.specs.declared.request.Refusal.TheVariants.{NoUser, NoChannel, NoGroup, Exists, TopicTooLong, TooMany}
+use Rattle.chat_model.specs.declared.row.Cause.TheVariants.{SwitchedOff}
+use Rattle.notice_ledger.specs.declared.accounts.Account.TheVariants.{Cancelled}
 use Rattle.chat_model.specs.declared.ids.UserId.{UserId}
 use Rattle.chat_model.specs.declared.ids.ChannelId.{ChannelId}
 use Rattle.chat_model.specs.declared.ids.GroupId.{GroupId}
+use Rattle.chat_model.specs.declared.deal.Deal.{Deal}
+use Rattle.chat_model.specs.declared.entry.Entry.{Entry}
+use Rattle.chat_model.specs.declared.mentions.UserName.{UserName}
+use Rattle.chat_model.specs.declared.mentions.GroupName.{GroupName}
 use Rattle.chat_model.specs.declared.trigger.Way.{Way}
 use Rattle.chat_model.specs.declared.trigger.Way.TheVariants.{Mail, Push}
 use Rattle.notice_ledger.specs.Past.Journal.{occurrence}
-use Rattle.notice_ledger.specs.Past.Values.{numbered, Person, person_of, people, named_from, user_names, is_one_of, group_of, groups, named_groups_from, group_names, is_group, membership_change, is_member, channel_of, channels, is_user, is_channel, SentMessage, message_of, messages, subscription_change, subscribed}
-use Rattle.notice_ledger.specs.Past.Owed.{Notice, waiting, owed_by, is_mail_turn_of, is_turn_of}
-use Rattle.notice_ledger.specs.Past.Deals.{deal_of, deal_made, deals}
+use Rattle.notice_ledger.specs.declared.destination.Destination.{Destination}
+use Rattle.notice_ledger.specs.declared.destination.Destination.TheVariants as destination
+use Rattle.notice_ledger.specs.Past.Values.{numbered, Person, person_of, setting_change, specific_change, policy_change, mute_change, people, named_from, user_names, is_one_of, group_of, groups, named_groups_from, group_names, is_group, membership_change, is_member, channel_of, channels, is_user, is_channel, SentMessage, message_of, messages, subscription_change, subscribed}
+use Rattle.notice_ledger.specs.Past.Owed.{Notice, waiting, owed_by, is_mail_turn_of, is_turn_of, switch_on, account_of}
+use Rattle.notice_ledger.specs.Past.Deals.{deal_of, deals}
 use Rattle.notice_ledger.specs.Past.Runs.{is_restart, start_count}
-use Rattle.notice_ledger.specs.Past.Outbox.{outbox, entries_by, mail_entries}
-use Rattle.notice_ledger.specs.Past.Audit.{in_64_bits}
+use Rattle.notice_ledger.specs.Past.Due.{batch_rows}
+use Rattle.notice_ledger.specs.Past.Outbox.{outbox, entries_by, mail_entry, mail_entries, by_message}
+use Rattle.notice_ledger.specs.Past.Audit.{in_64_bits, owed_with, same_account}
+use Rattle.notice_ledger.proofs.Audited.{switched_off, switched_off-append}
 use Rattle.notice_ledger.specs.Past.Refusals.{Rule, rule, first_broken, name_rules, rules_of, refusal, is_taken}
-use Rattle.notice_ledger.specs.Limits.{most_items}
+use Rattle.notice_ledger.specs.Limits.{longest_topic, most_items}
+use Rattle.notice_ledger.specs.Texts.{is_longer_than}
 use Rattle.notice_ledger.specs.InOrder.{is_ascending, is_in_order}
 use Rattle.notice_ledger.specs.Past.Lawful.{may_stand, is_lawful_after}
 use Rattle.notice_ledger.specs.Past.Journal.{last_stamp}
-use Rattle.notice_ledger.proofs.Lists.{filter_all}
-use Rattle.notice_ledger.proofs.Appended.{people-nil, people-append, groups-nil, groups-append, is_member-nil, is_member-append, channels-nil, channels-append, messages-nil, messages-append, subscribed-nil, subscribed-append, outbox-nil, outbox-append, last_stamp-append}
+use Rattle.notice_ledger.proofs.Lists.{filter_all, filter_none}
+use Rattle.notice_ledger.proofs.Appended.{notices-nil, people-nil, people-append, groups-nil, groups-append, is_member-nil, is_member-append, channels-nil, channels-append, messages-nil, messages-append, subscribed-nil, subscribed-append, outbox-nil, outbox-append, last_stamp-append}
 use Rattle.notice_ledger.proofs.Waiting.{is_turn, waiting-nil, waiting-append}
-use Rattle.notice_ledger.proofs.Batches.{is_mail_of, filter_same}
+use Rattle.notice_ledger.proofs.Batches.{is_mail_of, filter_same, batch_rows-waiting, by_message-batch_rows}
 use Rattle.notice_ledger.proofs.DealLemmas.{deals-nil, deals-append, start_count-nil, start_count-append}
-use Rattle.book_tables.specs.declared.user_set.UserSet.{UserSet}
+use Rattle.book_tables.specs.declared.tables.Message.{Message}
+use Rattle.book_tables.specs.declared.tables.Waiting.{Waiting}
 use Rattle.book_tables.specs.declared.tables.Tables.{Tables}
 use Rattle.book_tables.specs.declared.prepared.Effect.{Effect}
 use Rattle.book_tables.specs.declared.prepared.Effect.TheVariants as effect
-use Rattle.book_tables.specs.UserSets.{users_in, has_in, users_after, changed_at, changed_numbered, IsSet, AreUserSets}
-use Rattle.book_tables.specs.Tables.{Holds, message_kept, notice_kept, is_mail_to}
-use Rattle.book_tables.specs.Prepared.{IsEffectOf, IsGroup, IsMessage, IsMailed}
-use Rattle.book_tables.specs.Applied.{IsApplied, HoldTheSame}
+use Rattle.book_tables.specs.UserSets.{users_in, has_in, users_after, changed_at, changed_numbered, IsSet}
+use Rattle.book_tables.specs.declared.preferences.Preference.{Preference}
+use Rattle.book_tables.specs.declared.preferences.Preference.TheVariants as preference
+use Rattle.book_tables.specs.Preferences.{Preferred, default_preferred, preferred, preferred_in, preferred_by, preferred_after}
+use Rattle.book_tables.specs.Tables.{Holds, message_kept, notice_kept, is_mail_to, request_to, switched_at}
+use Rattle.book_tables.specs.Prepared.{IsEffectOf, IsGroup, IsMessage, IsMailed, IsSendOf}
+use Rattle.book_tables.specs.Applied.{starts_after, names_after, bots_after, preferences_after, groups_after, members_after, channels_after, subscribers_after, messages_after, waiting_after, deals_after, outbox_after, off_after, IsApplied, HoldTheSame}
 use Rattle.book_tables.proofs.Standing.{filter-map}
 use Rattle.book_tables.proofs.Following.{turn_of_mail}
+use Rattle.book_tables.proofs.PreferenceLemmas.{at_number, preferred_in-list, at_number-added, at_number-changed, preferred_by-nil, preferred_by-left, IsPreferredAfter, after-setting, after-specific, after-policy, after-mute}
 use Rattle.book_tables.proofs.UserSets.{is_in, has_in-sets, is_in-added, is_in-changed}
 use Rattle.book_tables.proofs.SetSizes.{are_grown, are_added, are_changed, are_user_sets, numbered-within, user_within, ascending_set}
 
@@ -88,14 +105,23 @@ past_none sets u =
     let e : length sets + 1 ≡ suc (length sets) = omega arith in
     ap (λ n. is_in sets n u) e ∙ ap (λ o. option_map_or (λ (us : List UserId). is_one_of us u) o false) (past_end sets)
 
+-- a set of nobody behind the last one has nobody
+is_in-opened : (sets : List (List UserId)) (n : ℕ) (u : UserId) → is_in (sets ++ [] ∷ []) n u ≡ is_in sets n u
+is_in-opened sets n u =
+    is_in-added sets [] n u
+    ∙ ⊎_elim
+    (λ h. ap (λ b. cond b false (is_in sets n u)) h.0 ∙ sym (ap (λ m. is_in sets m u) (sym h.1) ∙ past_none sets u))
+    (λ h. ap (λ b. cond b false (is_in sets n u)) h.0)
+    (eqb_tells (length sets + 1) n)
+
 named_groups_from-append : (n : ℕ) (xs ys : List (List ℕ)) → named_groups_from n (xs ++ ys) ≡ named_groups_from n xs ++ named_groups_from (n + length xs) ys
 named_groups_from-append n [] ys = ap (λ k. named_groups_from k ys) (omega arith)
 named_groups_from-append n (x ∷ xs) ys =
     let e : (n + 1) + length xs ≡ n + length (x ∷ xs) = omega arith in
     ap (λ ns. record { id = record { 0 = n }; name = x } ∷ ns) (named_groups_from-append (n + 1) xs ys ∙ ap (λ k. named_groups_from (n + 1) xs ++ named_groups_from k ys) e)
 
-next_number : (a b : ℕ) → a ≡ b → a + 1 ≡ 1 + b
-next_number a b h = omega arith
+next_number : (n : ℕ) → 1 + n ≡ n + 1
+next_number n = omega arith
 
 one_longer : {A : Type 0} (xs : List A) (x : A) → length (xs ++ x ∷ []) ≡ length xs + 1
 one_longer xs x = length-append xs (x ∷ [])
@@ -107,6 +133,8 @@ same_stands old new j stands same = record {
   starts = same.starts ∙ stands.starts;
   names = same.names ∙ stands.names;
   bots = same.bots ∙ stands.bots;
+  preferences = λ u. preferred_in-list new.preferences.items u.0 ∙ (ap (λ ps. at_number ps u.0) same.preferences ∙ (sym (preferred_in-list old.preferences.items u.0) ∙ stands.preferences u));
+  preferences_long = sym (length-map new.preferences.items preferred) ∙ (ap length same.preferences ∙ (length-map old.preferences.items preferred ∙ stands.preferences_long));
   members = λ g u. has_in-sets new.members.items g.0 u ∙ (ap (λ sets. is_in sets g.0 u) same.members ∙ (sym (has_in-sets old.members.items g.0 u) ∙ stands.members g u));
   member_sets = are_user_sets (length (groups j)) (length (people j)) new.members.items (map users_in old.members.items) same.members (length-map old.members.items users_in ∙ stands.member_sets.count) stands.member_sets.sets;
   groups = same.groups ∙ stands.groups;
@@ -117,348 +145,423 @@ same_stands old new j stands same = record {
   waiting = same.waiting ∙ stands.waiting;
   deals = same.deals ∙ stands.deals;
   outbox = same.outbox ∙ stands.outbox;
+  off = same.off ∙ stands.off;
 }
 
-module _ (old new : Tables) (j : List Stamped) (stands : Holds old j) where
-  starts_left : (s : Stamped) → is_restart s.event ≡ false → new.starts ≡ old.starts → new.starts ≡ in_64_bits (start_count (j ++ s ∷ []))
-  starts_left s other same = same ∙ (stands.starts ∙ ap in_64_bits (sym (start_count-append j s ∙ (ap (λ b. start_count j + cond b 1 0) other ∙ add-zero (start_count j)))))
+-- ---- what an effect has to make of each table: what the event makes of what the table holds
 
-  starts_next : (s : Stamped) → is_restart s.event ≡ true → new.starts ≡ min (old.starts + 1) (2 ^ 64 - 1) → new.starts ≡ in_64_bits (start_count (j ++ s ∷ []))
-  starts_next s restart more = more ∙ (ap (λ n. min (n + 1) (2 ^ 64 - 1)) stands.starts ∙ (one_more (start_count j) ∙ ap in_64_bits (sym (start_count-append j s ∙ ap (λ b. start_count j + cond b 1 0) restart))))
-    where
-      one_more : (n : ℕ) → min (min n (2 ^ 64 - 1) + 1) (2 ^ 64 - 1) ≡ min (n + 1) (2 ^ 64 - 1)
-      one_more n = omega arith
+-- the sets that stand by the numbers of groups or channels: who is in each, how many there are, and of which users
+record SetsAgree {K : Type 0} (number : K → ℕ) (has next : K → UserId → Bool) (many more n m : ℕ) (f : List (List UserId) → List (List UserId)) : Type 0 where
+  found : (sets : List (List UserId)) → length sets ≡ many → ((k : K) (u : UserId) → is_in sets (number k) u ≡ has k u) → (k : K) (u : UserId) → is_in (f sets) (number k) u ≡ next k u
+  count : (sets : List (List UserId)) → length sets ≡ many → length (f sets) ≡ more
+  are : (sets : List (List UserId)) → AllByRecursion (IsSet n) sets → AllByRecursion (IsSet m) (f sets)
 
-  -- ---- what an event of another kind leaves
+-- where the sets stay
+sets_left : {K : Type 0} (number : K → ℕ) (has next : K → UserId → Bool) (many more n m : ℕ) (f : List (List UserId) → List (List UserId)) → ((sets : List (List UserId)) → f sets ≡ sets) → ((k : K) (u : UserId) → next k u ≡ has k u) → more ≡ many
+    → ((sets : List (List UserId)) → AllByRecursion (IsSet n) sets → AllByRecursion (IsSet m) sets) → SetsAgree number has next many more n m f
+sets_left number has next many more n m f same left as_many kept = record {
+  found = λ sets long is k u. ap (λ x. is_in x (number k) u) (same sets) ∙ (is k u ∙ sym (left k u));
+  count = λ sets long. ap length (same sets) ∙ (long ∙ sym as_many);
+  are = λ sets all. subst (λ (x : List (List UserId)). AllByRecursion (IsSet m) x) (sym (same sets)) (kept sets all);
+}
 
-  same_people : (s : Stamped) → person_of s.event ≡ None → people (j ++ s ∷ []) ≡ people j
-  same_people s e = people-append j s ∙ (ap (λ o. people j ++ option_to_list o) e ∙ append-nil (people j))
+-- where a user comes into a set or goes
+sets_changed : {K : Type 0} (number : K → ℕ) (has next : K → UserId → Bool) (many more n m : ℕ) (h : ℕ) (v : UserId) (on : Bool) → (0 < h) × (h ≤ many) → (0 < v.0) × (v.0 ≤ n)
+    → ((k : K) (u : UserId) → next k u ≡ unwrap_or (if v.0 == u.0 && h == number k then Some on else None) (has k u)) → more ≡ many
+    → ((sets : List (List UserId)) → AllByRecursion (IsSet n) sets → AllByRecursion (IsSet m) sets) → SetsAgree number has next many more n m (changed_numbered h (users_after v on))
+sets_changed number has next many more n m h v on place user comes as_many kept = record {
+  found = λ sets long is k u.
+      is_in-changed sets v h on u (number k) (numbered-there h sets place.0 (omega (arith, place.1, long)))
+      ∙ (ap (λ b. unwrap_or (if v.0 == u.0 && h == number k then Some on else None) b) (is k u) ∙ sym (comes k u));
+  count = λ sets long. changed-long h (users_after v on) sets ∙ (long ∙ sym as_many);
+  are = λ sets all. kept (changed_numbered h (users_after v on) sets) (are_changed n h sets v on all user.0 user.1);
+}
 
-  same_groups : (s : Stamped) → group_of s.event ≡ None → groups (j ++ s ∷ []) ≡ groups j
-  same_groups s e = groups-append j s ∙ (ap (λ o. groups j ++ option_to_list o) e ∙ append-nil (groups j))
+-- users, which of them are bots, and what they prefer
+record UsersAgree (j : List Stamped) (s : Stamped) (e : Effect) : Type 0 where
+  named : user_names (j ++ s ∷ []) ≡ names_after e (user_names j)
+  automatic : map (λ (p : Person). p.bot) (people (j ++ s ∷ [])) ≡ bots_after e (map (λ (p : Person). p.bot) (people j))
+  prefer : (all : List Preferred) → length all ≡ length (people j) → ((u : UserId) → at_number all u.0 ≡ preferred_by j u) → (u : UserId) → at_number (preferences_after e all) u.0 ≡ preferred_by (j ++ s ∷ []) u
+  count : (all : List Preferred) → length all ≡ length (people j) → length (preferences_after e all) ≡ length (people (j ++ s ∷ []))
 
-  same_channels : (s : Stamped) → channel_of s.event ≡ None → channels (j ++ s ∷ []) ≡ channels j
-  same_channels s e = channels-append j s ∙ (ap (λ o. channels j ++ option_to_list o) e ∙ append-nil (channels j))
+-- what is kept of sets of users behind the event
+abbrev KeepsSets : List Stamped → Stamped → Type 0
+KeepsSets j s = (sets : List (List UserId)) → AllByRecursion (IsSet (length (people j))) sets → AllByRecursion (IsSet (length (people (j ++ s ∷ [])))) sets
 
-  names_left : (s : Stamped) → person_of s.event ≡ None → new.names.items ≡ old.names.items → new.names.items ≡ user_names (j ++ s ∷ [])
-  names_left s e same = same ∙ (stands.names ∙ ap (named_from 1) (sym (same_people s e)))
+record GroupsAgree (j : List Stamped) (s : Stamped) (e : Effect) : Type 0 where
+  named : group_names (j ++ s ∷ []) ≡ groups_after e (group_names j)
+  sets : SetsAgree (λ (g : GroupId). g.0) (λ g u. is_member j g u) (λ g u. is_member (j ++ s ∷ []) g u) (length (groups j)) (length (groups (j ++ s ∷ []))) (length (people j)) (length (people (j ++ s ∷ []))) (members_after e)
 
-  bots_left : (s : Stamped) → person_of s.event ≡ None → new.bots.items ≡ old.bots.items → new.bots.items ≡ map (λ (p : Person). p.bot) (people (j ++ s ∷ []))
-  bots_left s e same = same ∙ (stands.bots ∙ ap (map (λ (p : Person). p.bot)) (sym (same_people s e)))
+record ChannelsAgree (j : List Stamped) (s : Stamped) (e : Effect) : Type 0 where
+  named : channels (j ++ s ∷ []) ≡ channels_after e (channels j)
+  sets : SetsAgree (λ (c : ChannelId). c.0) (λ c u. subscribed j u c) (λ c u. subscribed (j ++ s ∷ []) u c) (length (channels j)) (length (channels (j ++ s ∷ []))) (length (people j)) (length (people (j ++ s ∷ []))) (subscribers_after e)
 
-  groups_left : (s : Stamped) → group_of s.event ≡ None → new.groups.items ≡ old.groups.items → new.groups.items ≡ group_names (j ++ s ∷ [])
-  groups_left s e same = same ∙ (stands.groups ∙ ap (named_groups_from 1) (sym (same_groups s e)))
+record MessagesAgree (j : List Stamped) (s : Stamped) (e : Effect) : Type 0 where
+  sent : map message_kept (messages (j ++ s ∷ [])) ≡ messages_after e (map message_kept (messages j))
+  dealt : deals (j ++ s ∷ []) ≡ deals_after e (deals j)
 
-  channels_left : (s : Stamped) → channel_of s.event ≡ None → new.channels.items ≡ old.channels.items → new.channels.items ≡ channels (j ++ s ∷ [])
-  channels_left s e same = same ∙ (stands.channels ∙ sym (same_channels s e))
+-- what waits, what was handed and what was switched off
+record NoticesAgree (j : List Stamped) (s : Stamped) (e : Effect) : Type 0 where
+  wait : map notice_kept (waiting (j ++ s ∷ [])) ≡ waiting_after e (map notice_kept (waiting j))
+  handed : outbox (j ++ s ∷ []) ≡ outbox_after e (outbox j)
+  off : in_64_bits (switched_off (j ++ s ∷ [])) ≡ off_after e (in_64_bits (switched_off j))
 
-  old_members : (g : GroupId) (u : UserId) → is_in (map users_in old.members.items) g.0 u ≡ is_member j g u
-  old_members g u = sym (has_in-sets old.members.items g.0 u) ∙ stands.members g u
+-- the effect makes of all tables what the event makes of them
+record Agrees (j : List Stamped) (s : Stamped) (e : Effect) : Type 0 where
+  starts : in_64_bits (start_count (j ++ s ∷ [])) ≡ starts_after e (in_64_bits (start_count j))
+  of_users : UsersAgree j s e
+  of_groups : GroupsAgree j s e
+  of_channels : ChannelsAgree j s e
+  of_messages : MessagesAgree j s e
+  of_notices : NoticesAgree j s e
 
-  old_subscribers : (c : ChannelId) (u : UserId) → is_in (map users_in old.subscribers.items) c.0 u ≡ subscribed j u c
-  old_subscribers c u = sym (has_in-sets old.subscribers.items c.0 u) ∙ stands.subscribers c u
+-- tables to which such an effect was made stand for the journal with the event
+agreed : (old new : Tables) (j : List Stamped) → Holds old j → (s : Stamped) (e : Effect) → Agrees j s e → IsApplied old new e → new.last ≡ s.at → Holds new (j ++ s ∷ [])
+agreed old new j stands s e agrees applied last =
+    let users = agrees.of_users in let members = agrees.of_groups.sets in let subscribers = agrees.of_channels.sets in
+    let all = map preferred old.preferences.items in
+    let in_groups = map users_in old.members.items in let in_channels = map users_in old.subscribers.items in
+    let people_long : length all ≡ length (people j) = length-map old.preferences.items preferred ∙ stands.preferences_long in
+    let groups_long : length in_groups ≡ length (groups j) = length-map old.members.items users_in ∙ stands.member_sets.count in
+    let channels_long : length in_channels ≡ length (channels j) = length-map old.subscribers.items users_in ∙ stands.subscriber_sets.count in
+    record {
+      last = last ∙ sym (last_stamp-append j s);
+      starts = applied.starts ∙ (ap (starts_after e) stands.starts ∙ sym agrees.starts);
+      names = applied.names ∙ (ap (names_after e) stands.names ∙ sym users.named);
+      bots = applied.bots ∙ (ap (bots_after e) stands.bots ∙ sym users.automatic);
+      preferences = λ u.
+          preferred_in-list new.preferences.items u.0
+          ∙ (ap (λ ps. at_number ps u.0) applied.preferences ∙ users.prefer all people_long (λ v. sym (preferred_in-list old.preferences.items v.0) ∙ stands.preferences v) u);
+      preferences_long = sym (length-map new.preferences.items preferred) ∙ (ap length applied.preferences ∙ users.count all people_long);
+      members = λ g u.
+          has_in-sets new.members.items g.0 u
+          ∙ (ap (λ sets. is_in sets g.0 u) applied.members ∙ members.found in_groups groups_long (λ h v. sym (has_in-sets old.members.items h.0 v) ∙ stands.members h v) g u);
+      member_sets = are_user_sets (length (groups (j ++ s ∷ []))) (length (people (j ++ s ∷ []))) new.members.items (members_after e in_groups) applied.members (members.count in_groups groups_long) (members.are in_groups stands.member_sets.sets);
+      groups = applied.groups ∙ (ap (groups_after e) stands.groups ∙ sym agrees.of_groups.named);
+      subscribers = λ c u.
+          has_in-sets new.subscribers.items c.0 u
+          ∙ (ap (λ sets. is_in sets c.0 u) applied.subscribers ∙ subscribers.found in_channels channels_long (λ d v. sym (has_in-sets old.subscribers.items d.0 v) ∙ stands.subscribers d v) c u);
+      subscriber_sets = are_user_sets (length (channels (j ++ s ∷ []))) (length (people (j ++ s ∷ []))) new.subscribers.items (subscribers_after e in_channels) applied.subscribers (subscribers.count in_channels channels_long) (subscribers.are in_channels stands.subscriber_sets.sets);
+      channels = applied.channels ∙ (ap (channels_after e) stands.channels ∙ sym agrees.of_channels.named);
+      messages = applied.messages ∙ (ap (messages_after e) stands.messages ∙ sym agrees.of_messages.sent);
+      waiting = applied.waiting ∙ (ap (waiting_after e) stands.waiting ∙ sym agrees.of_notices.wait);
+      deals = applied.deals ∙ (ap (deals_after e) stands.deals ∙ sym agrees.of_messages.dealt);
+      outbox = applied.outbox ∙ (ap (outbox_after e) stands.outbox ∙ sym agrees.of_notices.handed);
+      off = applied.off ∙ (ap (off_after e) stands.off ∙ sym agrees.of_notices.off);
+    }
 
-  members_left : (s : Stamped) → ((g : GroupId) (u : UserId) → membership_change g u j s.event ≡ None) → map users_in new.members.items ≡ map users_in old.members.items → (g : GroupId) (u : UserId) → has_in new.members.items g.0 u ≡ is_member (j ++ s ∷ []) g u
-  members_left s e same g u =
-      has_in-sets new.members.items g.0 u
-      ∙ (ap (λ sets. is_in sets g.0 u) same ∙ (old_members g u ∙ sym (is_member-append j s g u ∙ ap (λ o. unwrap_or o (is_member j g u)) (e g u))))
+-- a count at the end of 64 bits stands still
+added : (n m : ℕ) → min (min n (2 ^ 64 - 1) + m) (2 ^ 64 - 1) ≡ min (n + m) (2 ^ 64 - 1)
+added n m = omega arith
 
-  subscribers_left : (s : Stamped) → ((u : UserId) (c : ChannelId) → subscription_change u c s.event ≡ None) → map users_in new.subscribers.items ≡ map users_in old.subscribers.items → (c : ChannelId) (u : UserId) → has_in new.subscribers.items c.0 u ≡ subscribed (j ++ s ∷ []) u c
-  subscribers_left s e same c u =
-      has_in-sets new.subscribers.items c.0 u
-      ∙ (ap (λ sets. is_in sets c.0 u) same ∙ (old_subscribers c u ∙ sym (subscribed-append j s u c ∙ ap (λ o. unwrap_or o (subscribed j u c)) (e u c))))
+-- ---- what an event of another kind leaves
 
-  -- the sets of members, of so many groups, and of the users behind an event that adds none
-  member_sets_are : (s : Stamped) (sets : List (List UserId)) → person_of s.event ≡ None → map users_in new.members.items ≡ sets → length sets ≡ length (groups (j ++ s ∷ [])) → AllByRecursion (IsSet (length (people j))) sets → AreUserSets (length (groups (j ++ s ∷ []))) (length (people (j ++ s ∷ []))) new.members.items
-  member_sets_are s sets nobody are long all =
-      are_user_sets (length (groups (j ++ s ∷ []))) (length (people (j ++ s ∷ []))) new.members.items sets are long
-      (subst (λ (ps : List Person). AllByRecursion (IsSet (length ps)) sets) (sym (same_people s nobody)) all)
+module _ (j : List Stamped) (s : Stamped) (e : Effect) where
+  starts_left : is_restart s.event ≡ false → ((n : ℕ) → starts_after e n ≡ n) → in_64_bits (start_count (j ++ s ∷ [])) ≡ starts_after e (in_64_bits (start_count j))
+  starts_left other same =
+      ap in_64_bits (start_count-append j s ∙ (ap (λ b. start_count j + cond b 1 0) other ∙ add-zero (start_count j))) ∙ sym (same (in_64_bits (start_count j)))
 
-  subscriber_sets_are : (s : Stamped) (sets : List (List UserId)) → person_of s.event ≡ None → map users_in new.subscribers.items ≡ sets → length sets ≡ length (channels (j ++ s ∷ [])) → AllByRecursion (IsSet (length (people j))) sets → AreUserSets (length (channels (j ++ s ∷ []))) (length (people (j ++ s ∷ []))) new.subscribers.items
-  subscriber_sets_are s sets nobody are long all =
-      are_user_sets (length (channels (j ++ s ∷ []))) (length (people (j ++ s ∷ []))) new.subscribers.items sets are long
-      (subst (λ (ps : List Person). AllByRecursion (IsSet (length ps)) sets) (sym (same_people s nobody)) all)
+  same_people : person_of s.event ≡ None → people (j ++ s ∷ []) ≡ people j
+  same_people none = people-append j s ∙ (ap (λ o. people j ++ option_to_list o) none ∙ append-nil (people j))
 
-  members_long : length (map users_in old.members.items) ≡ length (groups j)
-  members_long = length-map old.members.items users_in ∙ stands.member_sets.count
+  same_groups : group_of s.event ≡ None → groups (j ++ s ∷ []) ≡ groups j
+  same_groups none = groups-append j s ∙ (ap (λ o. groups j ++ option_to_list o) none ∙ append-nil (groups j))
 
-  subscribers_long : length (map users_in old.subscribers.items) ≡ length (channels j)
-  subscribers_long = length-map old.subscribers.items users_in ∙ stands.subscriber_sets.count
+  same_channels : channel_of s.event ≡ None → channels (j ++ s ∷ []) ≡ channels j
+  same_channels none = channels-append j s ∙ (ap (λ o. channels j ++ option_to_list o) none ∙ append-nil (channels j))
 
-  member_sets_left : (s : Stamped) → group_of s.event ≡ None → person_of s.event ≡ None → map users_in new.members.items ≡ map users_in old.members.items → AreUserSets (length (groups (j ++ s ∷ []))) (length (people (j ++ s ∷ []))) new.members.items
-  member_sets_left s none nobody same = member_sets_are s (map users_in old.members.items) nobody same (members_long ∙ ap length (sym (same_groups s none))) stands.member_sets.sets
-
-  subscriber_sets_left : (s : Stamped) → channel_of s.event ≡ None → person_of s.event ≡ None → map users_in new.subscribers.items ≡ map users_in old.subscribers.items → AreUserSets (length (channels (j ++ s ∷ []))) (length (people (j ++ s ∷ []))) new.subscribers.items
-  subscriber_sets_left s none nobody same = subscriber_sets_are s (map users_in old.subscribers.items) nobody same (subscribers_long ∙ ap length (sym (same_channels s none))) stands.subscriber_sets.sets
-
-  same_messages : (s : Stamped) → message_of (occurrence j s) ≡ None → messages (j ++ s ∷ []) ≡ messages j
-  same_messages s e = messages-append j s ∙ (ap (λ o. messages j ++ option_to_list o) e ∙ append-nil (messages j))
-
-  messages_left : (s : Stamped) → message_of (occurrence j s) ≡ None → new.messages.items ≡ old.messages.items → new.messages.items ≡ map message_kept (messages (j ++ s ∷ []))
-  messages_left s e same = same ∙ (stands.messages ∙ ap (map message_kept) (sym (same_messages s e)))
-
-  never_turn : (s : Stamped) → ((u : UserId) → is_mail_turn_of u s.event ≡ false) → (n : Notice) → not (is_turn s n) ≡ true
-  never_turn s never n = ap not (by n.way)
-    where
-      by : (w : Way) → is_turn_of n.user w s.event ≡ false
-      by Mail = never n.user
-      by Push = refl
-
-  more_waiting : (s : Stamped) → ((u : UserId) → is_mail_turn_of u s.event ≡ false) → waiting (j ++ s ∷ []) ≡ waiting j ++ owed_by (occurrence j s)
-  more_waiting s never = waiting-append j s ∙ ap (λ ns. ns ++ owed_by (occurrence j s)) (filter_all (λ n. not (is_turn s n)) (never_turn s never) (waiting j))
-
-  same_waiting : (s : Stamped) → ((u : UserId) → is_mail_turn_of u s.event ≡ false) → owed_by (occurrence j s) ≡ [] → waiting (j ++ s ∷ []) ≡ waiting j
-  same_waiting s never none = more_waiting s never ∙ (ap (λ ns. waiting j ++ ns) none ∙ append-nil (waiting j))
-
-  waiting_left : (s : Stamped) → ((u : UserId) → is_mail_turn_of u s.event ≡ false) → owed_by (occurrence j s) ≡ [] → new.waiting.items ≡ old.waiting.items → new.waiting.items ≡ map notice_kept (waiting (j ++ s ∷ []))
-  waiting_left s never none same = same ∙ (stands.waiting ∙ ap (map notice_kept) (sym (same_waiting s never none)))
-
-  deals_left : (s : Stamped) → deal_made (occurrence j s) ≡ None → new.deals.items ≡ old.deals.items → new.deals.items ≡ deals (j ++ s ∷ [])
-  deals_left s none same = same ∙ (stands.deals ∙ sym (deals-append j s ∙ (ap (λ o. deals j ++ option_to_list o) none ∙ append-nil (deals j))))
-
-  same_outbox : (s : Stamped) → entries_by j s.at s.event ≡ [] → outbox (j ++ s ∷ []) ≡ outbox j
-  same_outbox s none = outbox-append j s ∙ (ap (λ es. outbox j ++ es) none ∙ append-nil (outbox j))
-
-  outbox_left : (s : Stamped) → entries_by j s.at s.event ≡ [] → new.outbox.items ≡ old.outbox.items → new.outbox.items ≡ outbox (j ++ s ∷ [])
-  outbox_left s none same = same ∙ (stands.outbox ∙ sym (same_outbox s none))
-
-  -- ---- each event
-
-  after_restart : (at : ℕ) → IsApplied old new effect.Start → new.last ≡ at → Holds new (j ++ record { at = at; event = Restart } ∷ [])
-  after_restart at applied last =
-      let s : Stamped = record { at = at; event = Restart } in
+  users_left : person_of s.event ≡ None → ((u : UserId) → setting_change u s.event ≡ None) → ((u : UserId) (c : ChannelId) → specific_change u c s.event ≡ None) → ((u : UserId) (c : ChannelId) (topic : List ℕ) → policy_change u c topic s.event ≡ None) → ((u v : UserId) → mute_change u v s.event ≡ None)
+      → ((ns : List UserName) → names_after e ns ≡ ns) → ((bs : List Bool) → bots_after e bs ≡ bs) → ((ps : List Preferred) → preferences_after e ps ≡ ps) → UsersAgree j s e
+  users_left nobody no_setting no_specific no_policy no_mute same_names same_bots same_preferences =
+      let bot : Person → Bool = λ p. p.bot in
       record {
-        last = last ∙ sym (last_stamp-append j s);
-        starts = starts_next s refl applied.starts;
-        names = names_left s refl applied.names;
-        bots = bots_left s refl applied.bots;
-        members = members_left s (λ g u. refl) applied.members;
-        member_sets = member_sets_left s refl refl applied.members;
-        groups = groups_left s refl applied.groups;
-        subscribers = subscribers_left s (λ u c. refl) applied.subscribers;
-        subscriber_sets = subscriber_sets_left s refl refl applied.subscribers;
-        channels = channels_left s refl applied.channels;
-        messages = messages_left s refl applied.messages;
-        waiting = waiting_left s (λ u. refl) refl applied.waiting;
-        deals = deals_left s refl applied.deals;
-        outbox = outbox_left s refl applied.outbox;
+        named = ap (named_from 1) (same_people nobody) ∙ sym (same_names (user_names j));
+        automatic = ap (map bot) (same_people nobody) ∙ sym (same_bots (map bot (people j)));
+        prefer = λ all long is u. ap (λ ps. at_number ps u.0) (same_preferences all) ∙ (is u ∙ sym (preferred_by-left j s u (no_setting u) (no_specific u) (no_policy u) (no_mute u)));
+        count = λ all long. ap length (same_preferences all) ∙ (long ∙ ap length (sym (same_people nobody)));
       }
 
-  after_user : (at : ℕ) (name : List ℕ) (bot : Bool) → IsApplied old new (effect.User (record { id = record { 0 = length (people j) + 1 }; name = name }) bot) → new.last ≡ at → Holds new (j ++ record { at = at; event = Asked (AddUser name bot) } ∷ [])
-  after_user at name bot applied last =
+  -- sets of users stay sets of users where nobody comes
+  still_sets : person_of s.event ≡ None → KeepsSets j s
+  still_sets nobody sets all = subst (λ (ps : List Person). AllByRecursion (IsSet (length ps)) sets) (sym (same_people nobody)) all
+
+  groups_left : group_of s.event ≡ None → ((g : GroupId) (u : UserId) → membership_change g u j s.event ≡ None) → KeepsSets j s
+      → ((gs : List GroupName) → groups_after e gs ≡ gs) → ((sets : List (List UserId)) → members_after e sets ≡ sets) → GroupsAgree j s e
+  groups_left no_group no_member kept same_names same_sets = record {
+    named = ap (named_groups_from 1) (same_groups no_group) ∙ sym (same_names (group_names j));
+    sets = sets_left (λ (g : GroupId). g.0) (λ g u. is_member j g u) (λ g u. is_member (j ++ s ∷ []) g u) (length (groups j)) (length (groups (j ++ s ∷ []))) (length (people j)) (length (people (j ++ s ∷ []))) (members_after e) same_sets
+        (λ g u. is_member-append j s g u ∙ ap (λ o. unwrap_or o (is_member j g u)) (no_member g u)) (ap length (same_groups no_group)) kept;
+  }
+
+  channels_left : channel_of s.event ≡ None → ((u : UserId) (c : ChannelId) → subscription_change u c s.event ≡ None) → KeepsSets j s
+      → ((cs : List (List ℕ)) → channels_after e cs ≡ cs) → ((sets : List (List UserId)) → subscribers_after e sets ≡ sets) → ChannelsAgree j s e
+  channels_left no_channel no_subscription kept same_names same_sets = record {
+    named = same_channels no_channel ∙ sym (same_names (channels j));
+    sets = sets_left (λ (c : ChannelId). c.0) (λ c u. subscribed j u c) (λ c u. subscribed (j ++ s ∷ []) u c) (length (channels j)) (length (channels (j ++ s ∷ []))) (length (people j)) (length (people (j ++ s ∷ []))) (subscribers_after e) same_sets
+        (λ c u. subscribed-append j s u c ∙ ap (λ o. unwrap_or o (subscribed j u c)) (no_subscription u c)) (ap length (same_channels no_channel)) kept;
+  }
+
+  messages_left : message_of (occurrence j s) ≡ None → ((ms : List Message) → messages_after e ms ≡ ms) → ((ds : List Deal) → deals_after e ds ≡ ds) → MessagesAgree j s e
+  messages_left none same_messages same_deals = record {
+    sent = ap (map message_kept) (messages-append j s ∙ (ap (λ o. messages j ++ option_to_list o) none ∙ append-nil (messages j))) ∙ sym (same_messages (map message_kept (messages j)));
+    dealt = deals-append j s ∙ (ap (λ o. deals j ++ option_to_list (option_map (λ m. deal_of (occurrence j s)) o)) none ∙ (append-nil (deals j) ∙ sym (same_deals (deals j))));
+  }
+
+  -- nothing has its turn
+  no_turn : ((u : UserId) → is_mail_turn_of u s.event ≡ false) → (n : Notice) → is_turn s n ≡ false
+  no_turn never n = by n.user n.way
+    where
+      by : (u : UserId) (w : Way) → is_turn_of u w s.event ≡ false
+      by u Mail = never u
+      by u Push = refl
+
+  more_waiting : ((u : UserId) → is_mail_turn_of u s.event ≡ false) → waiting (j ++ s ∷ []) ≡ waiting j ++ owed_by (occurrence j s)
+  more_waiting never = waiting-append j s ∙ ap (λ ns. ns ++ owed_by (occurrence j s)) (filter_all (λ n. not (is_turn s n)) (λ n. ap not (no_turn never n)) (waiting j))
+
+  none_off : ((u : UserId) → is_mail_turn_of u s.event ≡ false) → entries_by j s.at s.event ≡ [] → switched_off (j ++ s ∷ []) ≡ switched_off j
+  none_off never none =
+      let all = switched_off-append j s in
+      let no_entry = ap length none in
+      let turned = ap length (filter_none (is_turn s) (no_turn never) (waiting j)) in
+      omega (arith, all, no_entry, turned)
+
+  notices_left : ((u : UserId) → is_mail_turn_of u s.event ≡ false) → owed_by (occurrence j s) ≡ [] → entries_by j s.at s.event ≡ []
+      → ((ws : List Waiting) → waiting_after e ws ≡ ws) → ((es : List Entry) → outbox_after e es ≡ es) → ((n : ℕ) → off_after e n ≡ n) → NoticesAgree j s e
+  notices_left never none no_entry same_waiting same_outbox same_off = record {
+    wait = ap (map notice_kept) (more_waiting never ∙ (ap (λ ns. waiting j ++ ns) none ∙ append-nil (waiting j))) ∙ sym (same_waiting (map notice_kept (waiting j)));
+    handed = outbox-append j s ∙ (ap (λ es. outbox j ++ es) no_entry ∙ (append-nil (outbox j) ∙ sym (same_outbox (outbox j))));
+    off = ap in_64_bits (none_off never no_entry) ∙ sym (same_off (in_64_bits (switched_off j)));
+  }
+
+-- ---- each event
+
+module _ (j : List Stamped) where
+  agrees_restart : (at : ℕ) → Agrees j (record { at = at; event = Restart }) effect.Start
+  agrees_restart at =
+      let s : Stamped = record { at = at; event = Restart } in let e = effect.Start in
+      record {
+        starts = ap in_64_bits (start_count-append j s) ∙ sym (added (start_count j) 1);
+        of_users = users_left j s e refl (λ u. refl) (λ u c. refl) (λ u c topic. refl) (λ u v. refl) (λ ns. refl) (λ bs. refl) (λ ps. refl);
+        of_groups = groups_left j s e refl (λ g u. refl) (still_sets j s e refl) (λ gs. refl) (λ sets. refl);
+        of_channels = channels_left j s e refl (λ u c. refl) (still_sets j s e refl) (λ cs. refl) (λ sets. refl);
+        of_messages = messages_left j s e refl (λ ms. refl) (λ ds. refl);
+        of_notices = notices_left j s e (λ u. refl) refl refl (λ ws. refl) (λ es. refl) (λ n. refl);
+      }
+
+  agrees_user : (at : ℕ) (name : List ℕ) (bot : Bool) → Agrees j (record { at = at; event = Asked (AddUser name bot) }) (effect.User (record { id = record { 0 = length (people j) + 1 }; name = name }) bot)
+  agrees_user at name bot =
       let s : Stamped = record { at = at; event = Asked (AddUser name bot) } in
-      let more : people (j ++ s ∷ []) ≡ people j ++ record { name = name; bot = bot } ∷ [] = people-append j s in
-      let many : length (people (j ++ s ∷ [])) ≡ length (people j) + 1 = ap length more ∙ one_longer (people j) (record { name = name; bot = bot }) in
+      let e = effect.User (record { id = record { 0 = length (people j) + 1 }; name = name }) bot in
+      let person : Person = record { name = name; bot = bot } in
+      let more : people (j ++ s ∷ []) ≡ people j ++ person ∷ [] = people-append j s in
+      let many : length (people (j ++ s ∷ [])) ≡ length (people j) + 1 = ap length more ∙ one_longer (people j) person in
+      let grown : KeepsSets j s = λ sets all. subst (λ (n : ℕ). AllByRecursion (IsSet n) sets) (sym many) (are_grown (length (people j)) sets all) in
       record {
-        last = last ∙ sym (last_stamp-append j s);
-        starts = starts_left s refl applied.starts;
-        names = applied.names ∙ (ap (λ ns. ns ++ record { id = record { 0 = length (people j) + 1 }; name = name } ∷ []) stands.names
-            ∙ (ap (λ n. user_names j ++ record { id = record { 0 = n }; name = name } ∷ []) (next_number (length (people j)) (length (people j)) refl)
-            ∙ (sym (named_from-append 1 (people j) (record { name = name; bot = bot } ∷ [])) ∙ ap (named_from 1) (sym more))));
-        bots = applied.bots ∙ (ap (λ bs. bs ++ bot ∷ []) stands.bots
-            ∙ (sym (map-append (λ (p : Person). p.bot) (people j) (record { name = name; bot = bot } ∷ [])) ∙ ap (map (λ (p : Person). p.bot)) (sym more)));
-        members = members_left s (λ g u. refl) applied.members;
-        member_sets = are_user_sets (length (groups (j ++ s ∷ []))) (length (people (j ++ s ∷ []))) new.members.items (map users_in old.members.items) applied.members (members_long ∙ ap length (sym (same_groups s refl)))
-            (subst (λ (n : ℕ). AllByRecursion (IsSet n) (map users_in old.members.items)) (sym many) (are_grown (length (people j)) (map users_in old.members.items) stands.member_sets.sets));
-        groups = groups_left s refl applied.groups;
-        subscribers = subscribers_left s (λ u c. refl) applied.subscribers;
-        subscriber_sets = are_user_sets (length (channels (j ++ s ∷ []))) (length (people (j ++ s ∷ []))) new.subscribers.items (map users_in old.subscribers.items) applied.subscribers (subscribers_long ∙ ap length (sym (same_channels s refl)))
-            (subst (λ (n : ℕ). AllByRecursion (IsSet n) (map users_in old.subscribers.items)) (sym many) (are_grown (length (people j)) (map users_in old.subscribers.items) stands.subscriber_sets.sets));
-        channels = channels_left s refl applied.channels;
-        messages = messages_left s refl applied.messages;
-        waiting = waiting_left s (λ u. refl) refl applied.waiting;
-        deals = deals_left s refl applied.deals;
-        outbox = outbox_left s refl applied.outbox;
+        starts = starts_left j s e refl (λ n. refl);
+        of_users = record {
+          named = ap (named_from 1) more ∙ (named_from-append 1 (people j) (person ∷ []) ∙ ap (λ n. user_names j ++ record { id = record { 0 = n }; name = name } ∷ []) (next_number (length (people j))));
+          automatic = ap (map (λ (p : Person). p.bot)) more ∙ map-append (λ (p : Person). p.bot) (people j) (person ∷ []);
+          prefer = λ all long is u. at_number-added all u.0 ∙ (is u ∙ sym (preferred_by-left j s u refl (λ c. refl) (λ c topic. refl) (λ v. refl)));
+          count = λ all long. one_longer all default_preferred ∙ (ap (λ n. n + 1) long ∙ sym many);
+        };
+        of_groups = groups_left j s e refl (λ g u. refl) grown (λ gs. refl) (λ sets. refl);
+        of_channels = channels_left j s e refl (λ u c. refl) grown (λ cs. refl) (λ sets. refl);
+        of_messages = messages_left j s e refl (λ ms. refl) (λ ds. refl);
+        of_notices = notices_left j s e (λ u. refl) refl refl (λ ws. refl) (λ es. refl) (λ n. refl);
       }
 
-  after_group : (at : ℕ) (name : List ℕ) (members : List UserId) (e : Effect) → list_all (is_user j) members ≡ true → is_ascending members ≡ true
-      → IsGroup e (record { id = record { 0 = length (groups j) + 1 }; name = name }) members → IsApplied old new e → new.last ≡ at → Holds new (j ++ record { at = at; event = Asked (AddGroup name members) } ∷ [])
-  after_group at name members effect.Start there ascending fits applied last = absurd fits
-  after_group at name members (effect.User user bot) there ascending fits applied last = absurd fits
-  after_group at name members (effect.Membership group user on) there ascending fits applied last = absurd fits
-  after_group at name members (effect.Channel channel) there ascending fits applied last = absurd fits
-  after_group at name members (effect.Subscription ch user on) there ascending fits applied last = absurd fits
-  after_group at name members (effect.Message message new_waiting deal) there ascending fits applied last = absurd fits
-  after_group at name members (effect.Mailed user entries) there ascending fits applied last = absurd fits
-  after_group at name members (effect.Group group set) there ascending fits applied last =
+  agrees_group : (at : ℕ) (name : List ℕ) (members : List UserId) (e : Effect) → list_all (is_user j) members ≡ true → is_ascending members ≡ true
+      → IsGroup e (record { id = record { 0 = length (groups j) + 1 }; name = name }) members → Agrees j (record { at = at; event = Asked (AddGroup name members) }) e
+  agrees_group at name members effect.Start there ascending fits = absurd fits
+  agrees_group at name members (effect.User user bot) there ascending fits = absurd fits
+  agrees_group at name members (effect.Membership group user on) there ascending fits = absurd fits
+  agrees_group at name members (effect.Channel channel) there ascending fits = absurd fits
+  agrees_group at name members (effect.Subscription ch user on) there ascending fits = absurd fits
+  agrees_group at name members (effect.Preference user change) there ascending fits = absurd fits
+  agrees_group at name members (effect.Message message new_waiting deal) there ascending fits = absurd fits
+  agrees_group at name members (effect.Mailed user entries off) there ascending fits = absurd fits
+  agrees_group at name members (effect.Group group set) there ascending fits =
       let s : Stamped = record { at = at; event = Asked (AddGroup name members) } in
-      let sets = map users_in old.members.items in
-      let are : map users_in new.members.items ≡ sets ++ members ∷ [] = applied.members ∙ ap (λ us. sets ++ us ∷ []) fits.1 in
+      let e = effect.Group group set in let n = length (people j) in
       let more : groups (j ++ s ∷ []) ≡ groups j ++ name ∷ [] = groups-append j s in
       record {
-        last = last ∙ sym (last_stamp-append j s);
-        starts = starts_left s refl applied.starts;
-        names = names_left s refl applied.names;
-        bots = bots_left s refl applied.bots;
-        members = λ g u. has_in-sets new.members.items g.0 u ∙ (ap (λ x. is_in x g.0 u) are ∙ (is_in-added sets members g.0 u
-            ∙ (ap (λ n. cond (n + 1 == g.0) (is_one_of members u) (is_in sets g.0 u)) members_long
-            ∙ (ap (λ b. cond (length (groups j) + 1 == g.0) (is_one_of members u) b) (old_members g u)
-            ∙ (sym (chosen (length (groups j) + 1 == g.0) (is_one_of members u) (is_member j g u)) ∙ sym (is_member-append j s g u))))));
-        member_sets = member_sets_are s (sets ++ members ∷ []) refl are (one_longer sets members ∙ (ap (λ n. n + 1) members_long ∙ (sym (one_longer (groups j) name) ∙ ap length (sym more))))
-            (are_added (length (people j)) sets members stands.member_sets.sets (ascending_set j members there ascending));
-        groups = applied.groups ∙ (ap (λ g. old.groups.items ++ g ∷ []) fits.0 ∙ (ap (λ gs. gs ++ record { id = record { 0 = length (groups j) + 1 }; name = name } ∷ []) stands.groups
-            ∙ (ap (λ n. group_names j ++ record { id = record { 0 = n }; name = name } ∷ []) (next_number (length (groups j)) (length (groups j)) refl)
-            ∙ (sym (named_groups_from-append 1 (groups j) (name ∷ [])) ∙ ap (named_groups_from 1) (sym more)))));
-        subscribers = subscribers_left s (λ u c. refl) applied.subscribers;
-        subscriber_sets = subscriber_sets_left s refl refl applied.subscribers;
-        channels = channels_left s refl applied.channels;
-        messages = messages_left s refl applied.messages;
-        waiting = waiting_left s (λ u. refl) refl applied.waiting;
-        deals = deals_left s refl applied.deals;
-        outbox = outbox_left s refl applied.outbox;
+        starts = starts_left j s e refl (λ n. refl);
+        of_users = users_left j s e refl (λ u. refl) (λ u c. refl) (λ u c topic. refl) (λ u v. refl) (λ ns. refl) (λ bs. refl) (λ ps. refl);
+        of_groups = record {
+          named = ap (named_groups_from 1) more ∙ (named_groups_from-append 1 (groups j) (name ∷ [])
+              ∙ (ap (λ n. group_names j ++ record { id = record { 0 = n }; name = name } ∷ []) (next_number (length (groups j))) ∙ ap (λ g. group_names j ++ g ∷ []) (sym fits.0)));
+          sets = record {
+            found = λ sets long is g u.
+                ap (λ us. is_in (sets ++ us ∷ []) g.0 u) fits.1 ∙ (is_in-added sets members g.0 u
+                ∙ (ap (λ n. cond (n + 1 == g.0) (is_one_of members u) (is_in sets g.0 u)) long
+                ∙ (ap (λ b. cond (length (groups j) + 1 == g.0) (is_one_of members u) b) (is g u)
+                ∙ (sym (chosen (length (groups j) + 1 == g.0) (is_one_of members u) (is_member j g u)) ∙ sym (is_member-append j s g u)))));
+            count = λ sets long. one_longer sets (users_in set) ∙ (ap (λ n. n + 1) long ∙ (sym (one_longer (groups j) name) ∙ ap length (sym more)));
+            are = λ sets all. still_sets j s e refl (sets ++ users_in set ∷ []) (are_added n sets (users_in set) all (subst (IsSet n) (sym fits.1) (ascending_set j members there ascending)));
+          };
+        };
+        of_channels = channels_left j s e refl (λ u c. refl) (still_sets j s e refl) (λ cs. refl) (λ sets. refl);
+        of_messages = messages_left j s e refl (λ ms. refl) (λ ds. refl);
+        of_notices = notices_left j s e (λ u. refl) refl refl (λ ws. refl) (λ es. refl) (λ n. refl);
       }
     where
       chosen : (b x y : Bool) → unwrap_or (if b then Some x else None) y ≡ cond b x y
       chosen true x y = refl
       chosen false x y = refl
 
-  -- the set of a number is there
-  set_there : (n : ℕ) (cs : List UserSet) (many : ℕ) → length cs ≡ many → 0 < n → n ≤ many → is_some (numbered n (map users_in cs)) ≡ true
-  set_there n cs many long low high = numbered-there n (map users_in cs) low (omega (arith, length-map cs users_in, long))
-
-  after_member : (at : ℕ) (h : GroupId) (v : UserId) (on : Bool) → is_user j v ≡ true → is_group j h ≡ true → IsApplied old new (effect.Membership h v on) → new.last ≡ at → Holds new (j ++ record { at = at; event = Asked (Member h v on) } ∷ [])
-  after_member at h v on user_there group_there applied last =
-      let s : Stamped = record { at = at; event = Asked (Member h v on) } in
-      let sets = map users_in old.members.items in
-      let within = user_within j v user_there in let place = numbered-within h.0 (groups j) group_there in
+  agrees_member : (at : ℕ) (h : GroupId) (v : UserId) (on : Bool) → is_user j v ≡ true → is_group j h ≡ true → Agrees j (record { at = at; event = Asked (Member h v on) }) (effect.Membership h v on)
+  agrees_member at h v on user_there group_there =
+      let s : Stamped = record { at = at; event = Asked (Member h v on) } in let e = effect.Membership h v on in
+      let changed = sets_changed (λ (g : GroupId). g.0) (λ g u. is_member j g u) (λ g u. is_member (j ++ s ∷ []) g u) (length (groups j)) (length (groups (j ++ s ∷ []))) (length (people j)) (length (people (j ++ s ∷ []))) h.0 v on (numbered-within h.0 (groups j) group_there) (user_within j v user_there)
+      (λ g u. is_member-append j s g u ∙ ap (λ c. unwrap_or (if c then Some on else None) (is_member j g u)) (and-swap (h.0 == g.0) (v.0 == u.0))) (ap length (same_groups j s e refl)) (still_sets j s e refl) in
       record {
-        last = last ∙ sym (last_stamp-append j s);
-        starts = starts_left s refl applied.starts;
-        names = names_left s refl applied.names;
-        bots = bots_left s refl applied.bots;
-        members = λ g u. has_in-sets new.members.items g.0 u ∙ (ap (λ x. is_in x g.0 u) applied.members
-            ∙ (is_in-changed sets v h.0 on u g.0 (set_there h.0 old.members.items (length (groups j)) stands.member_sets.count place.0 place.1)
-            ∙ (ap (λ b. unwrap_or (if v.0 == u.0 && h.0 == g.0 then Some on else None) b) (old_members g u)
-            ∙ (ap (λ c. unwrap_or (if c then Some on else None) (is_member j g u)) (and-swap (v.0 == u.0) (h.0 == g.0)) ∙ sym (is_member-append j s g u)))));
-        member_sets = member_sets_are s (changed_numbered h.0 (users_after v on) sets) refl applied.members (changed-long h.0 (users_after v on) sets ∙ (members_long ∙ ap length (sym (same_groups s refl))))
-            (are_changed (length (people j)) h.0 sets v on stands.member_sets.sets within.0 within.1);
-        groups = groups_left s refl applied.groups;
-        subscribers = subscribers_left s (λ u c. refl) applied.subscribers;
-        subscriber_sets = subscriber_sets_left s refl refl applied.subscribers;
-        channels = channels_left s refl applied.channels;
-        messages = messages_left s refl applied.messages;
-        waiting = waiting_left s (λ u. refl) refl applied.waiting;
-        deals = deals_left s refl applied.deals;
-        outbox = outbox_left s refl applied.outbox;
+        starts = starts_left j s e refl (λ n. refl);
+        of_users = users_left j s e refl (λ u. refl) (λ u c. refl) (λ u c topic. refl) (λ u v. refl) (λ ns. refl) (λ bs. refl) (λ ps. refl);
+        of_groups = record { named = ap (named_groups_from 1) (same_groups j s e refl); sets = changed };
+        of_channels = channels_left j s e refl (λ u c. refl) (still_sets j s e refl) (λ cs. refl) (λ sets. refl);
+        of_messages = messages_left j s e refl (λ ms. refl) (λ ds. refl);
+        of_notices = notices_left j s e (λ u. refl) refl refl (λ ws. refl) (λ es. refl) (λ n. refl);
       }
 
-  after_channel : (at : ℕ) (name : List ℕ) → IsApplied old new (effect.Channel name) → new.last ≡ at → Holds new (j ++ record { at = at; event = Asked (AddChannel name) } ∷ [])
-  after_channel at name applied last =
-      let s : Stamped = record { at = at; event = Asked (AddChannel name) } in
-      let sets = map users_in old.subscribers.items in
+  agrees_channel : (at : ℕ) (name : List ℕ) → Agrees j (record { at = at; event = Asked (AddChannel name) }) (effect.Channel name)
+  agrees_channel at name =
+      let s : Stamped = record { at = at; event = Asked (AddChannel name) } in let e = effect.Channel name in let n = length (people j) in
       let more : channels (j ++ s ∷ []) ≡ channels j ++ name ∷ [] = channels-append j s in
       record {
-        last = last ∙ sym (last_stamp-append j s);
-        starts = starts_left s refl applied.starts;
-        names = names_left s refl applied.names;
-        bots = bots_left s refl applied.bots;
-        members = members_left s (λ g u. refl) applied.members;
-        member_sets = member_sets_left s refl refl applied.members;
-        groups = groups_left s refl applied.groups;
-        subscribers = λ c u. has_in-sets new.subscribers.items c.0 u ∙ (ap (λ x. is_in x c.0 u) applied.subscribers
-            ∙ (is_in-added sets [] c.0 u ∙ (nobody (length sets + 1) c.0 sets u refl ∙ (old_subscribers c u ∙ sym (subscribed-append j s u c)))));
-        subscriber_sets = subscriber_sets_are s (sets ++ [] ∷ []) refl applied.subscribers (one_longer sets [] ∙ (ap (λ n. n + 1) subscribers_long ∙ (sym (one_longer (channels j) name) ∙ ap length (sym more))))
-            (are_added (length (people j)) sets [] stands.subscriber_sets.sets (refl, tt));
-        channels = applied.channels ∙ (ap (λ ns. ns ++ name ∷ []) stands.channels ∙ sym more);
-        messages = messages_left s refl applied.messages;
-        waiting = waiting_left s (λ u. refl) refl applied.waiting;
-        deals = deals_left s refl applied.deals;
-        outbox = outbox_left s refl applied.outbox;
+        starts = starts_left j s e refl (λ n. refl);
+        of_users = users_left j s e refl (λ u. refl) (λ u c. refl) (λ u c topic. refl) (λ u v. refl) (λ ns. refl) (λ bs. refl) (λ ps. refl);
+        of_groups = groups_left j s e refl (λ g u. refl) (still_sets j s e refl) (λ gs. refl) (λ sets. refl);
+        of_channels = record {
+          named = more;
+          sets = record {
+            found = λ sets long is c u. is_in-opened sets c.0 u ∙ (is c u ∙ sym (subscribed-append j s u c));
+            count = λ sets long. one_longer sets [] ∙ (ap (λ n. n + 1) long ∙ (sym (one_longer (channels j) name) ∙ ap length (sym more)));
+            are = λ sets all. still_sets j s e refl (sets ++ [] ∷ []) (are_added n sets [] all (refl, tt));
+          };
+        };
+        of_messages = messages_left j s e refl (λ ms. refl) (λ ds. refl);
+        of_notices = notices_left j s e (λ u. refl) refl refl (λ ws. refl) (λ es. refl) (λ n. refl);
       }
-    where
-      nobody : (k n : ℕ) (sets : List (List UserId)) (u : UserId) → k ≡ length sets + 1 → cond (k == n) false (is_in sets n u) ≡ is_in sets n u
-      nobody k n sets u e =
-          ⊎_elim
-          (λ h. ap (λ b. cond b false (is_in sets n u)) h.0 ∙ sym (ap (λ m. is_in sets m u) (sym h.1 ∙ e) ∙ past_none sets u))
-          (λ h. ap (λ b. cond b false (is_in sets n u)) h.0)
-          (eqb_tells k n)
 
-  after_subscription : (at : ℕ) (v : UserId) (ch : ChannelId) (on : Bool) → is_user j v ≡ true → is_channel j ch ≡ true → IsApplied old new (effect.Subscription ch v on) → new.last ≡ at → Holds new (j ++ record { at = at; event = Asked (Subscribe v ch on) } ∷ [])
-  after_subscription at v ch on user_there channel_there applied last =
-      let s : Stamped = record { at = at; event = Asked (Subscribe v ch on) } in
-      let sets = map users_in old.subscribers.items in
-      let within = user_within j v user_there in let place = numbered-within ch.0 (channels j) channel_there in
+  agrees_subscription : (at : ℕ) (v : UserId) (h : ChannelId) (on : Bool) → is_user j v ≡ true → is_channel j h ≡ true → Agrees j (record { at = at; event = Asked (Subscribe v h on) }) (effect.Subscription h v on)
+  agrees_subscription at v h on user_there channel_there =
+      let s : Stamped = record { at = at; event = Asked (Subscribe v h on) } in let e = effect.Subscription h v on in
+      let changed = sets_changed (λ (c : ChannelId). c.0) (λ c u. subscribed j u c) (λ c u. subscribed (j ++ s ∷ []) u c) (length (channels j)) (length (channels (j ++ s ∷ []))) (length (people j)) (length (people (j ++ s ∷ []))) h.0 v on (numbered-within h.0 (channels j) channel_there) (user_within j v user_there)
+      (λ c u. subscribed-append j s u c) (ap length (same_channels j s e refl)) (still_sets j s e refl) in
       record {
-        last = last ∙ sym (last_stamp-append j s);
-        starts = starts_left s refl applied.starts;
-        names = names_left s refl applied.names;
-        bots = bots_left s refl applied.bots;
-        members = members_left s (λ g u. refl) applied.members;
-        member_sets = member_sets_left s refl refl applied.members;
-        groups = groups_left s refl applied.groups;
-        subscribers = λ c u. has_in-sets new.subscribers.items c.0 u ∙ (ap (λ x. is_in x c.0 u) applied.subscribers
-            ∙ (is_in-changed sets v ch.0 on u c.0 (set_there ch.0 old.subscribers.items (length (channels j)) stands.subscriber_sets.count place.0 place.1)
-            ∙ (ap (λ b. unwrap_or (if v.0 == u.0 && ch.0 == c.0 then Some on else None) b) (old_subscribers c u) ∙ sym (subscribed-append j s u c))));
-        subscriber_sets = subscriber_sets_are s (changed_numbered ch.0 (users_after v on) sets) refl applied.subscribers (changed-long ch.0 (users_after v on) sets ∙ (subscribers_long ∙ ap length (sym (same_channels s refl))))
-            (are_changed (length (people j)) ch.0 sets v on stands.subscriber_sets.sets within.0 within.1);
-        channels = channels_left s refl applied.channels;
-        messages = messages_left s refl applied.messages;
-        waiting = waiting_left s (λ u. refl) refl applied.waiting;
-        deals = deals_left s refl applied.deals;
-        outbox = outbox_left s refl applied.outbox;
+        starts = starts_left j s e refl (λ n. refl);
+        of_users = users_left j s e refl (λ u. refl) (λ u c. refl) (λ u c topic. refl) (λ u v. refl) (λ ns. refl) (λ bs. refl) (λ ps. refl);
+        of_groups = groups_left j s e refl (λ g u. refl) (still_sets j s e refl) (λ gs. refl) (λ sets. refl);
+        of_channels = record { named = same_channels j s e refl; sets = changed };
+        of_messages = messages_left j s e refl (λ ms. refl) (λ ds. refl);
+        of_notices = notices_left j s e (λ u. refl) refl refl (λ ws. refl) (λ es. refl) (λ n. refl);
       }
 
-  after_send : (at : ℕ) (sender : UserId) (channel : ChannelId) (topic text : List ℕ) (e : Effect)
-      → IsMessage e (record { sender = sender; channel = channel; topic = topic; text = text }) (map notice_kept (owed_by (occurrence j (record { at = at; event = Asked (Send sender channel topic text) })))) (deal_of (occurrence j (record { at = at; event = Asked (Send sender channel topic text) })))
-      → IsApplied old new e → new.last ≡ at → Holds new (j ++ record { at = at; event = Asked (Send sender channel topic text) } ∷ [])
-  after_send at sender channel topic text effect.Start fits applied last = absurd fits
-  after_send at sender channel topic text (effect.User user bot) fits applied last = absurd fits
-  after_send at sender channel topic text (effect.Group group members) fits applied last = absurd fits
-  after_send at sender channel topic text (effect.Membership group user on) fits applied last = absurd fits
-  after_send at sender channel topic text (effect.Channel name) fits applied last = absurd fits
-  after_send at sender channel topic text (effect.Subscription ch user on) fits applied last = absurd fits
-  after_send at sender channel topic text (effect.Mailed user entries) fits applied last = absurd fits
-  after_send at sender channel topic text (effect.Message message new_waiting deal) fits applied last =
-      let s : Stamped = record { at = at; event = Asked (Send sender channel topic text) } in
-      let m : SentMessage = record { past = j; sender = sender; channel = channel; topic = topic; text = text } in
+  -- an event that sends a message
+  agrees_sent : (s : Stamped) (m : SentMessage) → message_of (occurrence j s) ≡ Some m
+      → is_restart s.event ≡ false → person_of s.event ≡ None → group_of s.event ≡ None → channel_of s.event ≡ None → ((g : GroupId) (u : UserId) → membership_change g u j s.event ≡ None) → ((u : UserId) (c : ChannelId) → subscription_change u c s.event ≡ None)
+      → ((u : UserId) → setting_change u s.event ≡ None) → ((u : UserId) (c : ChannelId) → specific_change u c s.event ≡ None) → ((u : UserId) (c : ChannelId) (topic : List ℕ) → policy_change u c topic s.event ≡ None) → ((u v : UserId) → mute_change u v s.event ≡ None)
+      → ((u : UserId) → is_mail_turn_of u s.event ≡ false) → entries_by j s.at s.event ≡ []
+      → (e : Effect) → IsMessage e (message_kept m) (map notice_kept (owed_by (occurrence j s))) (deal_of (occurrence j s)) → Agrees j s e
+  agrees_sent s m sends no_start nobody no_group no_channel no_member no_subscription no_setting no_specific no_policy no_mute never no_entry effect.Start fits = absurd fits
+  agrees_sent s m sends no_start nobody no_group no_channel no_member no_subscription no_setting no_specific no_policy no_mute never no_entry (effect.User user bot) fits = absurd fits
+  agrees_sent s m sends no_start nobody no_group no_channel no_member no_subscription no_setting no_specific no_policy no_mute never no_entry (effect.Group group members) fits = absurd fits
+  agrees_sent s m sends no_start nobody no_group no_channel no_member no_subscription no_setting no_specific no_policy no_mute never no_entry (effect.Membership group user on) fits = absurd fits
+  agrees_sent s m sends no_start nobody no_group no_channel no_member no_subscription no_setting no_specific no_policy no_mute never no_entry (effect.Channel name) fits = absurd fits
+  agrees_sent s m sends no_start nobody no_group no_channel no_member no_subscription no_setting no_specific no_policy no_mute never no_entry (effect.Subscription ch user on) fits = absurd fits
+  agrees_sent s m sends no_start nobody no_group no_channel no_member no_subscription no_setting no_specific no_policy no_mute never no_entry (effect.Preference user change) fits = absurd fits
+  agrees_sent s m sends no_start nobody no_group no_channel no_member no_subscription no_setting no_specific no_policy no_mute never no_entry (effect.Mailed user entries off) fits = absurd fits
+  agrees_sent s m sends no_start nobody no_group no_channel no_member no_subscription no_setting no_specific no_policy no_mute never no_entry (effect.Message message owed deal) fits =
+      let e = effect.Message message owed deal in
       record {
-        last = last ∙ sym (last_stamp-append j s);
-        starts = starts_left s refl applied.starts;
-        names = names_left s refl applied.names;
-        bots = bots_left s refl applied.bots;
-        members = members_left s (λ g u. refl) applied.members;
-        member_sets = member_sets_left s refl refl applied.members;
-        groups = groups_left s refl applied.groups;
-        subscribers = subscribers_left s (λ u c. refl) applied.subscribers;
-        subscriber_sets = subscriber_sets_left s refl refl applied.subscribers;
-        channels = channels_left s refl applied.channels;
-        messages = applied.messages ∙ (ap (λ ms. ms ++ message ∷ []) stands.messages ∙ (ap (λ k. map message_kept (messages j) ++ k ∷ []) fits.0
-            ∙ (sym (map-append message_kept (messages j) (m ∷ [])) ∙ ap (map message_kept) (sym (messages-append j s)))));
-        waiting = applied.waiting ∙ (ap (λ ws. ws ++ new_waiting.items) stands.waiting ∙ (ap (λ ws. map notice_kept (waiting j) ++ ws) fits.1
-            ∙ (sym (map-append notice_kept (waiting j) (owed_by (occurrence j s))) ∙ ap (map notice_kept) (sym (more_waiting s (λ u. refl))))));
-        deals = applied.deals ∙ (ap (λ d. old.deals.items ++ d ∷ []) fits.2 ∙ (ap (λ ds. ds ++ deal_of (occurrence j s) ∷ []) stands.deals ∙ sym (deals-append j s)));
-        outbox = outbox_left s refl applied.outbox;
+        starts = starts_left j s e no_start (λ n. refl);
+        of_users = users_left j s e nobody no_setting no_specific no_policy no_mute (λ ns. refl) (λ bs. refl) (λ ps. refl);
+        of_groups = groups_left j s e no_group no_member (still_sets j s e nobody) (λ gs. refl) (λ sets. refl);
+        of_channels = channels_left j s e no_channel no_subscription (still_sets j s e nobody) (λ cs. refl) (λ sets. refl);
+        of_messages = record {
+          sent = ap (map message_kept) (messages-append j s ∙ ap (λ o. messages j ++ option_to_list o) sends) ∙ (map-append message_kept (messages j) (m ∷ []) ∙ ap (λ k. map message_kept (messages j) ++ k ∷ []) (sym fits.0));
+          dealt = deals-append j s ∙ (ap (λ o. deals j ++ option_to_list (option_map (λ n. deal_of (occurrence j s)) o)) sends ∙ ap (λ d. deals j ++ d ∷ []) (sym fits.2));
+        };
+        of_notices = record {
+          wait = ap (map notice_kept) (more_waiting j s e never) ∙ (map-append notice_kept (waiting j) (owed_by (occurrence j s)) ∙ ap (λ ws. map notice_kept (waiting j) ++ ws) (sym fits.1));
+          handed = outbox-append j s ∙ (ap (λ es. outbox j ++ es) no_entry ∙ append-nil (outbox j));
+          off = ap in_64_bits (none_off j s e never no_entry);
+        };
       }
 
-  after_mails : (at : ℕ) (user : UserId) (e : Effect) → IsMailed e user (mail_entries j at user) → IsApplied old new e → new.last ≡ at → Holds new (j ++ record { at = at; event = MailTurn user } ∷ [])
-  after_mails at user effect.Start fits applied last = absurd fits
-  after_mails at user (effect.User u bot) fits applied last = absurd fits
-  after_mails at user (effect.Group group members) fits applied last = absurd fits
-  after_mails at user (effect.Membership group u on) fits applied last = absurd fits
-  after_mails at user (effect.Channel name) fits applied last = absurd fits
-  after_mails at user (effect.Subscription ch u on) fits applied last = absurd fits
-  after_mails at user (effect.Message message new_waiting deal) fits applied last = absurd fits
-  after_mails at user (effect.Mailed mailed entries) fits applied last =
+  agrees_send : (at : ℕ) (sender : UserId) (to : Destination) (text : List ℕ) (e : Effect) → IsSendOf j at sender to text e → Agrees j (record { at = at; event = Asked (request_to sender to text) }) e
+  agrees_send at sender (destination.Channel channel topic) text e fits =
+      agrees_sent (record { at = at; event = Asked (Send sender channel topic text) }) (record { past = j; sender = sender; to = destination.Channel channel topic; text = text }) refl
+      refl refl refl refl (λ g u. refl) (λ u c. refl) (λ u. refl) (λ u c. refl) (λ u c topic. refl) (λ u v. refl) (λ u. refl) refl e fits
+  agrees_send at sender (destination.Direct to) text e fits =
+      agrees_sent (record { at = at; event = Asked (Direct sender to text) }) (record { past = j; sender = sender; to = destination.Direct to; text = text }) refl
+      refl refl refl refl (λ g u. refl) (λ u c. refl) (λ u. refl) (λ u c. refl) (λ u c topic. refl) (λ u v. refl) (λ u. refl) refl e fits
+
+  -- an event by which a user sets something
+  agrees_preference : (s : Stamped) (v : UserId) (change : Preference) → is_user j v ≡ true → IsPreferredAfter j s v change
+      → is_restart s.event ≡ false → person_of s.event ≡ None → group_of s.event ≡ None → channel_of s.event ≡ None → ((g : GroupId) (u : UserId) → membership_change g u j s.event ≡ None) → ((u : UserId) (c : ChannelId) → subscription_change u c s.event ≡ None)
+      → ((u : UserId) → is_mail_turn_of u s.event ≡ false) → entries_by j s.at s.event ≡ [] → message_of (occurrence j s) ≡ None → owed_by (occurrence j s) ≡ [] → Agrees j s (effect.Preference v change)
+  agrees_preference s v change there after no_start nobody no_group no_channel no_member no_subscription never no_entry no_message owes_none =
+      let e = effect.Preference v change in let user = user_within j v there in
+      record {
+        starts = starts_left j s e no_start (λ n. refl);
+        of_users = record {
+          named = ap (named_from 1) (same_people j s e nobody);
+          automatic = ap (map (λ (p : Person). p.bot)) (same_people j s e nobody);
+          prefer = λ all long is u.
+              at_number-changed all v.0 u.0 (preferred_after change) (numbered-there v.0 all user.0 (omega (arith, user.1, long)))
+              ∙ (ap (λ p. cond (v.0 == u.0) (preferred_after change p) p) (is u) ∙ sym (after u));
+          count = λ all long. changed-long v.0 (preferred_after change) all ∙ (long ∙ ap length (sym (same_people j s e nobody)));
+        };
+        of_groups = groups_left j s e no_group no_member (still_sets j s e nobody) (λ gs. refl) (λ sets. refl);
+        of_channels = channels_left j s e no_channel no_subscription (still_sets j s e nobody) (λ cs. refl) (λ sets. refl);
+        of_messages = messages_left j s e no_message (λ ms. refl) (λ ds. refl);
+        of_notices = notices_left j s e never owes_none no_entry (λ ws. refl) (λ es. refl) (λ n. refl);
+      }
+
+  -- a mail turn switches all of a user's batch rows off, or none
+  more_off : (at : ℕ) (user : UserId) → switched_off (j ++ record { at = at; event = MailTurn user } ∷ []) ≡ switched_off j + switched_at j user
+  more_off at user =
       let s : Stamped = record { at = at; event = MailTurn user } in
+      let rows = length (batch_rows j user) in
+      let made = length (map (mail_entry j at) (by_message (batch_rows j user))) in
+      let turned = length (filter (is_turn s) (waiting j)) in
+      let all_turned : turned ≡ rows = ap length (sym (batch_rows-waiting j user ∙ filter_same (is_mail_of user) (is_turn s) (λ n. turn_of_mail user n.user n.way) (waiting j))) in
+      let all_made : made ≡ rows = length-map (by_message (batch_rows j user)) (mail_entry j at) ∙ ap length (by_message-batch_rows j user ∙ sym (batch_rows-waiting j user)) in
+      elim (switch_on j user Mail) as (λ on. switched_off (j ++ s ∷ []) + length (if on then map (mail_entry j at) (by_message (batch_rows j user)) else []) ≡ switched_off j + turned → switched_off (j ++ s ∷ []) ≡ switched_off j + (if on then 0 else rows)) [
+        | true ↦ λ h. all_on (switched_off (j ++ s ∷ [])) (switched_off j) made rows turned all_made all_turned h
+        | false ↦ λ h. all_off (switched_off (j ++ s ∷ [])) (switched_off j) rows turned all_turned h
+      ] (switched_off-append j s)
+    where
+      all_on : (n before made rows turned : ℕ) → made ≡ rows → turned ≡ rows → n + made ≡ before + turned → n ≡ before + 0
+      all_on n before made rows turned e f h = omega arith
+
+      all_off : (n before rows turned : ℕ) → turned ≡ rows → n + 0 ≡ before + turned → n ≡ before + rows
+      all_off n before rows turned f h = omega arith
+
+  agrees_mails : (at : ℕ) (user : UserId) (e : Effect) → IsMailed e user (mail_entries j at user) (switched_at j user) → Agrees j (record { at = at; event = MailTurn user }) e
+  agrees_mails at user effect.Start fits = absurd fits
+  agrees_mails at user (effect.User u bot) fits = absurd fits
+  agrees_mails at user (effect.Group group members) fits = absurd fits
+  agrees_mails at user (effect.Membership group u on) fits = absurd fits
+  agrees_mails at user (effect.Channel name) fits = absurd fits
+  agrees_mails at user (effect.Subscription ch u on) fits = absurd fits
+  agrees_mails at user (effect.Preference u change) fits = absurd fits
+  agrees_mails at user (effect.Message message owed deal) fits = absurd fits
+  agrees_mails at user (effect.Mailed mailed entries off) fits =
+      let s : Stamped = record { at = at; event = MailTurn user } in let e = effect.Mailed mailed entries off in
       record {
-        last = last ∙ sym (last_stamp-append j s);
-        starts = starts_left s refl applied.starts;
-        names = names_left s refl applied.names;
-        bots = bots_left s refl applied.bots;
-        members = members_left s (λ g u. refl) applied.members;
-        member_sets = member_sets_left s refl refl applied.members;
-        groups = groups_left s refl applied.groups;
-        subscribers = subscribers_left s (λ u c. refl) applied.subscribers;
-        subscriber_sets = subscriber_sets_left s refl refl applied.subscribers;
-        channels = channels_left s refl applied.channels;
-        messages = messages_left s refl applied.messages;
-        waiting = applied.waiting ∙ (ap (λ (u : UserId). filter (λ w. not (is_mail_to u w)) old.waiting.items) fits.0
-            ∙ (ap (filter (λ w. not (is_mail_to user w))) stands.waiting
-            ∙ (filter-map (λ w. not (is_mail_to user w)) notice_kept (waiting j)
-            ∙ ap (map notice_kept) (filter_same (λ n. not (is_mail_of user n)) (λ n. not (is_turn s n)) (λ n. ap not (turn_of_mail old j stands user n.user n.way)) (waiting j)
-            ∙ (sym (append-nil (filter (λ n. not (is_turn s n)) (waiting j))) ∙ sym (waiting-append j s))))));
-        deals = deals_left s refl applied.deals;
-        outbox = applied.outbox ∙ (ap (λ es. es ++ entries.items) stands.outbox ∙ (ap (λ es. outbox j ++ es) fits.1 ∙ sym (outbox-append j s)));
+        starts = starts_left j s e refl (λ n. refl);
+        of_users = users_left j s e refl (λ u. refl) (λ u c. refl) (λ u c topic. refl) (λ u v. refl) (λ ns. refl) (λ bs. refl) (λ ps. refl);
+        of_groups = groups_left j s e refl (λ g u. refl) (still_sets j s e refl) (λ gs. refl) (λ sets. refl);
+        of_channels = channels_left j s e refl (λ u c. refl) (still_sets j s e refl) (λ cs. refl) (λ sets. refl);
+        of_messages = messages_left j s e refl (λ ms. refl) (λ ds. refl);
+        of_notices = record {
+          wait = ap (map notice_kept) (waiting-append j s ∙ (append-nil (filter (λ n. not (is_turn s n)) (waiting j)) ∙ filter_same (λ n. not (is_turn s n)) (λ n. not (is_mail_of user n)) (λ n. ap not (sym (turn_of_mail user n.user n.way))) (waiting j)))
+              ∙ (sym (filter-map (λ w. not (is_mail_to user w)) notice_kept (waiting j)) ∙ ap (λ (u : UserId). filter (λ w. not (is_mail_to u w)) (map notice_kept (waiting j))) (sym fits.0));
+          handed = outbox-append j s ∙ ap (λ es. outbox j ++ es) (sym fits.1);
+          off = ap in_64_bits (more_off at user) ∙ (sym (added (switched_off j) (switched_at j user)) ∙ ap (λ n. min (in_64_bits (switched_off j) + n) (2 ^ 64 - 1)) (sym fits.2));
+        };
       }
 
   -- what a request that may stand tells
@@ -483,26 +586,44 @@ module _ (old new : Tables) (j : List Stamped) (stands : Holds old j) where
       second true b h = h
       second false b h = absurd (cc)
 
-  -- the tables stand for the journal with the event
-  follows : (at : ℕ) (event : Event) (e : Effect) → may_stand j at event ≡ true → IsEffectOf j at event e → IsApplied old new e → new.last ≡ at → Holds new (j ++ record { at = at; event = event } ∷ [])
-  follows at Restart e may fits applied last = after_restart at (subst (λ (x : Effect). IsApplied old new x) fits applied) last
-  follows at (Asked (AddUser name bot)) e may fits applied last = after_user at name bot (subst (λ (x : Effect). IsApplied old new x) fits applied) last
-  follows at (Asked (AddGroup name members)) e may fits applied last =
+  -- an effect that fits an event that may stand makes of the tables what the event makes of them
+  agrees : (at : ℕ) (event : Event) (e : Effect) → may_stand j at event ≡ true → IsEffectOf j at event e → Agrees j (record { at = at; event = event }) e
+  agrees at Restart e may fits = subst (Agrees j (record { at = at; event = Restart })) (sym fits) (agrees_restart at)
+  agrees at (Asked (AddUser name bot)) e may fits = subst (Agrees j (record { at = at; event = Asked (AddUser name bot) })) (sym fits) (agrees_user at name bot)
+  agrees at (Asked (AddGroup name members)) e may fits =
       let r = AddGroup name members in
-      after_group at name members e (first_kept (list_all (is_user j) members) NoUser (rule (is_taken (groups j) name) Exists ∷ rule (nat_lt most_items (length members)) (TooMany most_items) ∷ name_rules name) (asked_not_refused at r may)).0 (lists_in_order at r may) fits applied last
-  follows at (Asked (Member group user on)) e may fits applied last =
+      agrees_group at name members e (first_kept (list_all (is_user j) members) NoUser (rule (is_taken (groups j) name) Exists ∷ rule (nat_lt most_items (length members)) (TooMany most_items) ∷ name_rules name) (asked_not_refused at r may)).0 (lists_in_order at r may) fits
+  agrees at (Asked (Member group user on)) e may fits =
       let users = first_kept (is_user j user) NoUser (rule (not (is_group j group)) NoGroup ∷ []) (asked_not_refused at (Member group user on) may) in
-      after_member at group user on users.0 (first_kept (is_group j group) NoGroup [] users.1).0 (subst (λ (x : Effect). IsApplied old new x) fits applied) last
-  follows at (Asked (AddChannel name)) e may fits applied last = after_channel at name (subst (λ (x : Effect). IsApplied old new x) fits applied) last
-  follows at (Asked (Subscribe user channel on)) e may fits applied last =
+      subst (Agrees j (record { at = at; event = Asked (Member group user on) })) (sym fits) (agrees_member at group user on users.0 (first_kept (is_group j group) NoGroup [] users.1).0)
+  agrees at (Asked (AddChannel name)) e may fits = subst (Agrees j (record { at = at; event = Asked (AddChannel name) })) (sym fits) (agrees_channel at name)
+  agrees at (Asked (Subscribe user channel on)) e may fits =
       let users = first_kept (is_user j user) NoUser (rule (not (is_channel j channel)) NoChannel ∷ []) (asked_not_refused at (Subscribe user channel on) may) in
-      after_subscription at user channel on users.0 (first_kept (is_channel j channel) NoChannel [] users.1).0 (subst (λ (x : Effect). IsApplied old new x) fits applied) last
-  follows at (Asked (Send sender channel topic text)) e may fits applied last = after_send at sender channel topic text e fits applied last
-  follows at (MailTurn user) e may fits applied last = after_mails at user e fits applied last
+      subst (Agrees j (record { at = at; event = Asked (Subscribe user channel on) })) (sym fits) (agrees_subscription at user channel on users.0 (first_kept (is_channel j channel) NoChannel [] users.1).0)
+  agrees at (Asked (Set user change)) e may fits =
+      let s : Stamped = record { at = at; event = Asked (Set user change) } in
+      subst (Agrees j s) (sym fits) (agrees_preference s user (preference.Setting change) (first_kept (is_user j user) NoUser [] (asked_not_refused at (Set user change) may)).0 (after-setting j at user change)
+      refl refl refl refl (λ g u. refl) (λ u c. refl) (λ u. refl) refl refl refl)
+  agrees at (Asked (SetChannel user channel change)) e may fits =
+      let s : Stamped = record { at = at; event = Asked (SetChannel user channel change) } in
+      subst (Agrees j s) (sym fits) (agrees_preference s user (preference.Specific channel change) (first_kept (is_user j user) NoUser (rule (not (is_channel j channel)) NoChannel ∷ []) (asked_not_refused at (SetChannel user channel change) may)).0 (after-specific j at user channel change)
+      refl refl refl refl (λ g u. refl) (λ u c. refl) (λ u. refl) refl refl refl)
+  agrees at (Asked (SetPolicy user channel topic policy)) e may fits =
+      let s : Stamped = record { at = at; event = Asked (SetPolicy user channel topic policy) } in
+      subst (Agrees j s) (sym fits) (agrees_preference s user (preference.Policy channel topic policy) (first_kept (is_user j user) NoUser (rule (not (is_channel j channel)) NoChannel ∷ rule (is_longer_than longest_topic topic) TopicTooLong ∷ []) (asked_not_refused at (SetPolicy user channel topic policy) may)).0 (after-policy j at user channel topic policy)
+      refl refl refl refl (λ g u. refl) (λ u c. refl) (λ u. refl) refl refl refl)
+  agrees at (Asked (Mute user other on)) e may fits =
+      let s : Stamped = record { at = at; event = Asked (Mute user other on) } in
+      let both = first_kept (is_user j user && is_user j other) NoUser [] (asked_not_refused at (Mute user other on) may) in
+      subst (Agrees j s) (sym fits) (agrees_preference s user (preference.Mute other on) (and_parts (is_user j user) (is_user j other) both.0).0 (after-mute j at user other on)
+      refl refl refl refl (λ g u. refl) (λ u c. refl) (λ u. refl) refl refl refl)
+  agrees at (Asked (Send sender channel topic text)) e may fits = agrees_send at sender (destination.Channel channel topic) text e fits
+  agrees at (Asked (Direct sender to text)) e may fits = agrees_send at sender (destination.Direct to) text e fits
+  agrees at (MailTurn user) e may fits = agrees_mails at user e fits
 
 -- the tables hold what the events leave with a lawful one
 pub holds_after : (old new : Tables) (past : List Stamped) → Holds old past → (s : Stamped) → is_lawful_after past s ≡ true → (e : Effect) → IsEffectOf past s.at s.event e → IsApplied old new e → new.last ≡ s.at → Holds new (past ++ s ∷ [])
-holds_after old new past holds s next e fits applied last = follows old new past holds s.at s.event e (second (nat_le (last_stamp past) s.at) (may_stand past s.at s.event) next) fits applied last
+holds_after old new past holds s next e fits applied last = agreed old new past holds s e (agrees past s.at s.event e (second (nat_le (last_stamp past) s.at) (may_stand past s.at s.event) next) fits) applied last
   where
     second : (a b : Bool) → (a && b) ≡ true → b ≡ true
     second true b h = h
@@ -514,6 +635,7 @@ applied_at old new at e applied = record {
   starts = applied.starts;
   names = applied.names;
   bots = applied.bots;
+  preferences = applied.preferences;
   groups = applied.groups;
   members = applied.members;
   channels = applied.channels;
@@ -522,18 +644,25 @@ applied_at old new at e applied = record {
   waiting = applied.waiting;
   deals = applied.deals;
   outbox = applied.outbox;
+  off = applied.off;
 }
+
+nothing_off : 0 ≡ in_64_bits (switched_off [])
+unfolding owed_with
+nothing_off = ap (λ ns. in_64_bits (count_by (λ n. same_account (account_of [] n) (Cancelled SwitchedOff)) ns)) (sym notices-nil)
 
 no_start : 0 ≡ in_64_bits (start_count [])
 no_start = ap in_64_bits (sym start_count-nil)
 
 -- the tables of the empty journal
-pub empty_stands : (t : Tables) → t.last ≡ 0 → t.starts ≡ 0 → t.names.items ≡ [] → t.bots.items ≡ [] → t.groups.items ≡ [] → t.members.items ≡ [] → t.channels.items ≡ [] → t.subscribers.items ≡ [] → t.messages.items ≡ [] → t.waiting.items ≡ [] → t.deals.items ≡ [] → t.outbox.items ≡ [] → Holds t []
-empty_stands t last starts names bots group_list members channel_list subscribers ms ws ds es = record {
+pub empty_stands : (t : Tables) → t.last ≡ 0 → t.starts ≡ 0 → t.names.items ≡ [] → t.bots.items ≡ [] → t.groups.items ≡ [] → t.members.items ≡ [] → t.channels.items ≡ [] → t.subscribers.items ≡ [] → t.messages.items ≡ [] → t.waiting.items ≡ [] → t.deals.items ≡ [] → t.outbox.items ≡ [] → t.preferences.items ≡ [] → t.off ≡ 0 → Holds t []
+empty_stands t last starts names bots group_list members channel_list subscribers ms ws ds es ps off = record {
   last = last;
   starts = starts ∙ no_start;
   names = names ∙ ap (named_from 1) (sym people-nil);
   bots = bots ∙ ap (map (λ (p : Person). p.bot)) (sym people-nil);
+  preferences = λ u. ap (λ all. preferred_in all u.0) ps ∙ (nothing_set u.0 ∙ sym (preferred_by-nil u));
+  preferences_long = ap length ps ∙ ap length (sym people-nil);
   members = λ g u. ap (λ cs. has_in cs g.0 u) members ∙ (no_set g.0 u ∙ sym (is_member-nil g u));
   member_sets = are_user_sets (length (groups [])) (length (people [])) t.members.items [] (ap (map users_in) members) (ap length (sym groups-nil)) tt;
   groups = group_list ∙ ap (named_groups_from 1) (sym groups-nil);
@@ -544,8 +673,13 @@ empty_stands t last starts names bots group_list members channel_list subscriber
   waiting = ws ∙ ap (map notice_kept) (sym waiting-nil);
   deals = ds ∙ sym deals-nil;
   outbox = es ∙ sym outbox-nil;
+  off = off ∙ nothing_off;
 }
   where
+    nothing_set : (n : ℕ) → preferred_in [] n ≡ default_preferred
+    nothing_set zero = refl
+    nothing_set (suc n) = refl
+
     no_set : (n : ℕ) (u : UserId) → has_in [] n u ≡ false
     no_set zero u = refl
     no_set (suc n) u = refl

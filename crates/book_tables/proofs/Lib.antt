@@ -1,12 +1,15 @@
 pub mod Steps
 pub mod Numbered
 pub mod PendingRows
+pub mod UserRows
 pub mod RowsAfter
 pub mod UserSets
+pub mod PreferenceLemmas
 pub mod SetSizes
 pub mod Standing
 pub mod Soonest
 pub mod SetPlaces
 pub mod Following
+pub mod Addressed
 pub mod After
 pub mod RowLists

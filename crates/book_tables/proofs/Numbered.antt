@@ -1,6 +1,6 @@
 -- Lists numbered from 1, and a list with one element changed.
 use Rattle.std.proofs.Common.{◌≡◌, ◌≢◌, ℕ, zero, suc, ◌-◌, ◌<◌, ◌≤◌, List, [], ◌∷◌, length, map, get_or, set, refl, ap, arith}
-use Rattle.std.specs.Prelude.{Option, Some, None, IfSome, option_map, slice_get}
+use Rattle.std.specs.Prelude.{Some, None, IfSome, option_map, slice_get}
 use Rattle.std.specs.List.{AllByRecursion}
 use Rattle.notice_ledger.specs.Past.Values.{numbered}
 use Rattle.book_tables.specs.UserSets.{changed_at, changed_numbered}

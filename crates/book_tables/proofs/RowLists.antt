@@ -1,8 +1,7 @@
 -- Rows that are made of a list, one by one.
 use Rattle.std.proofs.Common.{◌≡◌, ℕ, zero, suc, ◌+◌, ◌<◌, List, [], ◌∷◌, ◌++◌, length, map, take, get_or, refl, sym, ap, ◌∙◌, add-zero, append_assoc, arith}
-use Rattle.std.specs.Prelude.{Some, None, false, slice_get}
+use Rattle.std.specs.Prelude.{Some, false, slice_get}
 use Rattle.std.specs.Option.{option_map_or}
-use Rattle.std.specs.List.{filter_map}
 use Rattle.std.proofs.lemmas.List.{map-append}
 use Rattle.chat_model.specs.declared.event.Stamped.{Stamped}
 use Rattle.chat_model.specs.declared.ids.UserId.{UserId}
@@ -14,9 +13,9 @@ use Rattle.chat_model.specs.declared.row.RowChange.TheVariants.{Put}
 use Rattle.chat_model.specs.declared.entry.Entry.{Entry}
 use Rattle.chat_model.specs.Rows.{changed_all}
 use Rattle.notice_ledger.specs.Past.Values.{numbered, Person, people, named_from, SentMessage, messages, is_bot, settings}
-use Rattle.notice_ledger.specs.Past.Owed.{Notice, notices, waiting}
+use Rattle.notice_ledger.specs.Past.Owed.{Notice, waiting}
 use Rattle.notice_ledger.specs.Past.Outbox.{outbox}
-use Rattle.notice_ledger.specs.Past.Rows.{user_rows_from, message_rows_from, outbox_rows_from, pending_row, rows}
+use Rattle.notice_ledger.specs.Past.Rows.{user_rows_from, message_rows_from, outbox_rows_from, rows}
 use Rattle.notice_ledger.proofs.RowOrder.{rows-changed_all}
 use Rattle.book_tables.specs.declared.tables.Tables.{Tables}
 use Rattle.book_tables.specs.Tables.{Holds, notice_kept}

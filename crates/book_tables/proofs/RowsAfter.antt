@@ -1,15 +1,13 @@
 -- The rows of a journal with one more event are the rows before it with the changes that the event brings.
 use Rattle.std.proofs.Common.{◌≡◌, ◌≢◌, ℕ, suc, ◌+◌, Bool, true, false, cond, not, List, [], ◌∷◌, ◌++◌, Option, Some, None, length, map, filter, refl, sym, ap, ◌∙◌, inl, inr, ◌⊎◌, ⊎_elim, arith, add-zero}
-use Rattle.std.specs.Prelude.{option_to_list}
+use Rattle.std.specs.Prelude.{option_map, option_to_list}
 use Rattle.std.specs.List.{AllByRecursion, filter_map}
 use Rattle.std.specs.Ordering.{is_eq}
-use Rattle.std.specs.declared.cmp.Ordering.{Ordering}
-use Rattle.std.specs.declared.cmp.Ordering.TheVariants.{Less, Equal, Greater}
 use Rattle.std.proofs.lemmas.List.{map-append}
 use Rattle.chat_model.specs.declared.event.Stamped.{Stamped}
 use Rattle.chat_model.specs.declared.event.Event.{Event}
 use Rattle.chat_model.specs.declared.event.Event.TheVariants.{Restart, Asked, MailTurn}
-use Rattle.chat_model.specs.declared.request.Request.TheVariants.{AddUser, AddGroup, Member, AddChannel, Subscribe, Send}
+use Rattle.chat_model.specs.declared.request.Request.TheVariants.{AddUser, AddGroup, Member, AddChannel, Subscribe, Set, SetChannel, SetPolicy, Mute, Send, Direct}
 use Rattle.chat_model.specs.declared.entry.Entry.{Entry}
 use Rattle.chat_model.specs.declared.row.Row.{Row}
 use Rattle.chat_model.specs.declared.row.Row.TheVariants as row
@@ -17,17 +15,17 @@ use Rattle.chat_model.specs.declared.row.RowKey.{RowKey}
 use Rattle.chat_model.specs.declared.row.RowKey.TheVariants as key
 use Rattle.chat_model.specs.declared.row.RowChange.{RowChange}
 use Rattle.chat_model.specs.declared.row.RowChange.TheVariants.{Put, Remove}
-use Rattle.chat_model.specs.Rows.{key_cmp, key_of, row_at, changed_all, IsAscending}
+use Rattle.chat_model.specs.Rows.{key_cmp, key_of, row_at, changed_all}
 use Rattle.chat_model.proofs.Keys.{same_key}
-use Rattle.chat_model.proofs.Rows.{row_after, row_after_all, row_at-changed_all, row_after_all-append, IsAscending-changed_all, IsAscending-nil, same_rows}
+use Rattle.chat_model.proofs.Rows.{row_after, row_after_all, row_at-changed_all, row_after_all-append, IsAscending-changed_all, same_rows}
 use Rattle.notice_ledger.specs.Past.Journal.{occurrence}
-use Rattle.chat_model.specs.Settings.{default_settings}
-use Rattle.notice_ledger.specs.Past.Values.{Person, person_of, people, SentMessage, sent_by, messages, settings}
+use Rattle.chat_model.specs.Settings.{changed_settings}
+use Rattle.notice_ledger.specs.Past.Values.{Person, person, people, SentMessage, message_of, messages, settings}
 use Rattle.notice_ledger.specs.Past.Owed.{Notice, notices, owed_by, waiting, is_turn_of}
 use Rattle.notice_ledger.specs.Past.Outbox.{outbox, entries_by}
 use Rattle.notice_ledger.specs.Past.Rows.{user_rows_from, message_rows_from, outbox_rows_from, pending_row, listed_rows, by_key, rows}
 use Rattle.notice_ledger.proofs.Lists.{AllByRecursion-append}
-use Rattle.notice_ledger.proofs.Appended.{people-nil, people-append, messages-nil, messages-append, notices-nil, outbox-nil, outbox-append}
+use Rattle.notice_ledger.proofs.Appended.{people-nil, messages-nil, messages-append, notices-nil, outbox-nil, outbox-append}
 use Rattle.notice_ledger.proofs.Waiting.{waiting-append}
 use Rattle.notice_ledger.proofs.RowKeys.{table, equal_from, other_key}
 use Rattle.notice_ledger.proofs.RowOrder.{rows-ascending, rows-changed_all}
@@ -37,6 +35,7 @@ use Rattle.notice_ledger.specs.Rows as any
 use Rattle.notice_ledger.proofs.LawfulLemmas.{lawful-next}
 use Rattle.book_tables.specs.declared.prepared.Prepared.{Prepared}
 use Rattle.book_tables.specs.Prepared.{IsPreparedFor, changes_of}
+use Rattle.book_tables.proofs.UserRows.{users-after}
 use Rattle.book_tables.proofs.PendingRows.{pending_rows-waiting}
 
 -- ---- tables
@@ -115,6 +114,10 @@ pub outbox_are : (n : ℕ) (es : List Entry) → AreOf 3 (map Put (outbox_rows_f
 outbox_are n [] = tt
 outbox_are n (e ∷ es) = (refl, outbox_are (n + 1) es)
 
+pub put_some_are : {A : Type 0} (t : ℕ) (f : A → Row) → ((x : A) → table (key_of (f x)) ≡ t) → (o : Option A) → AreOf t (map Put (option_to_list (option_map f o)))
+put_some_are t f each None = tt
+put_some_are t f each (Some x) = (each x, tt)
+
 new_users_are : (j : List Stamped) (e : Event) → AreOf 0 (map Put (new_user_rows j e))
 new_users_are j Restart = tt
 new_users_are j (Asked (AddUser name bot)) = (refl, tt)
@@ -122,18 +125,16 @@ new_users_are j (Asked (AddGroup name members)) = tt
 new_users_are j (Asked (Member group user on)) = tt
 new_users_are j (Asked (AddChannel name)) = tt
 new_users_are j (Asked (Subscribe user channel on)) = tt
+new_users_are j (Asked (Set user change)) = put_some_are 0 (λ (p : Person). row.User user p.name p.bot (changed_settings change (settings j user))) (λ p. refl) (person j user)
+new_users_are j (Asked (SetChannel user channel change)) = tt
+new_users_are j (Asked (SetPolicy user channel topic policy)) = tt
+new_users_are j (Asked (Mute user other on)) = tt
 new_users_are j (Asked (Send sender channel topic text)) = tt
+new_users_are j (Asked (Direct sender to text)) = tt
 new_users_are j (MailTurn user) = tt
 
-new_messages_are : (j : List Stamped) (e : Event) → AreOf 1 (map Put (new_message_rows j e))
-new_messages_are j Restart = tt
-new_messages_are j (Asked (AddUser name bot)) = tt
-new_messages_are j (Asked (AddGroup name members)) = tt
-new_messages_are j (Asked (Member group user on)) = tt
-new_messages_are j (Asked (AddChannel name)) = tt
-new_messages_are j (Asked (Subscribe user channel on)) = tt
-new_messages_are j (Asked (Send sender channel topic text)) = (refl, tt)
-new_messages_are j (MailTurn user) = tt
+new_messages_are : (j : List Stamped) (s : Stamped) → AreOf 1 (map Put (new_message_rows j s))
+new_messages_are j s = put_some_are 1 (λ (m : SentMessage). row.Message (record { 0 = length (messages j) + 1 }) m.sender m.text false) (λ m. refl) (message_of (occurrence j s))
 
 removes_are : (ns : List Notice) → AreOf 2 (map (λ n. Remove (notice_key n)) ns)
 removes_are [] = tt
@@ -149,11 +150,6 @@ one_more n = omega arith
 step_on : (n m : ℕ) → (n + 1) + m ≡ n + suc m
 step_on n m = omega arith
 
-user_rows-append : (j : List Stamped) (s : Stamped) (n : ℕ) (ps qs : List Person) → user_rows_from (j ++ s ∷ []) n (ps ++ qs) ≡ user_rows_from j n ps ++ user_rows_from (j ++ s ∷ []) (n + length ps) qs
-user_rows-append j s n [] qs = ap (λ k. user_rows_from (j ++ s ∷ []) k qs) (sym (add-zero n))
-user_rows-append j s n (p ∷ ps) qs =
-    ap (λ rs. row.User (record { 0 = n }) p.name p.bot (settings j (record { 0 = n })) ∷ rs) (user_rows-append j s (n + 1) ps qs ∙ ap (λ k. user_rows_from j (n + 1) ps ++ user_rows_from (j ++ s ∷ []) k qs) (step_on n (length ps)))
-
 message_rows-append : (n : ℕ) (ms ns : List SentMessage) → message_rows_from n (ms ++ ns) ≡ message_rows_from n ms ++ message_rows_from (n + length ms) ns
 message_rows-append n [] ns = ap (λ k. message_rows_from k ns) (sym (add-zero n))
 message_rows-append n (m ∷ ms) ns =
@@ -164,35 +160,14 @@ outbox_rows-append n [] fs = ap (λ k. outbox_rows_from k fs) (sym (add-zero n))
 outbox_rows-append n (e ∷ es) fs =
     ap (λ rs. row.Outbox (record { 0 = n }) e false ∷ rs) (outbox_rows-append (n + 1) es fs ∙ ap (λ k. outbox_rows_from (n + 1) es ++ outbox_rows_from k fs) (step_on n (length es)))
 
-new_users : (j : List Stamped) (s : Stamped) (e : Event) → user_rows_from (j ++ s ∷ []) (1 + length (people j)) (option_to_list (person_of e)) ≡ new_user_rows j e
-new_users j s Restart = refl
-new_users j s (Asked (AddUser name bot)) = ap (λ n. row.User (record { 0 = n }) name bot default_settings ∷ []) (one_more (length (people j)))
-new_users j s (Asked (AddGroup name members)) = refl
-new_users j s (Asked (Member group user on)) = refl
-new_users j s (Asked (AddChannel name)) = refl
-new_users j s (Asked (Subscribe user channel on)) = refl
-new_users j s (Asked (Send sender channel topic text)) = refl
-new_users j s (MailTurn user) = refl
+new_messages : (n : ℕ) (o : Option SentMessage) → message_rows_from (1 + n) (option_to_list o) ≡ option_to_list (option_map (λ (m : SentMessage). row.Message (record { 0 = n + 1 }) m.sender m.text false) o)
+new_messages n None = refl
+new_messages n (Some m) = ap (λ k. row.Message (record { 0 = k }) m.sender m.text false ∷ []) (one_more n)
 
-new_messages : (j : List Stamped) (e : Event) → message_rows_from (1 + length (messages j)) (option_to_list (sent_by j e)) ≡ new_message_rows j e
-new_messages j Restart = refl
-new_messages j (Asked (AddUser name bot)) = refl
-new_messages j (Asked (AddGroup name members)) = refl
-new_messages j (Asked (Member group user on)) = refl
-new_messages j (Asked (AddChannel name)) = refl
-new_messages j (Asked (Subscribe user channel on)) = refl
-new_messages j (Asked (Send sender channel topic text)) = ap (λ n. row.Message (record { 0 = n }) sender text false ∷ []) (one_more (length (messages j)))
-new_messages j (MailTurn user) = refl
-
-users_after : (j : List Stamped) (s : Stamped) → user_rows_from (j ++ s ∷ []) 1 (people (j ++ s ∷ [])) ≡ user_rows_from j 1 (people j) ++ new_user_rows j s.event
-users_after j s =
-    ap (user_rows_from (j ++ s ∷ []) 1) (people-append j s)
-    ∙ (user_rows-append j s 1 (people j) (option_to_list (person_of s.event)) ∙ ap (λ rs. user_rows_from j 1 (people j) ++ rs) (new_users j s s.event))
-
-messages_after : (j : List Stamped) (s : Stamped) → message_rows_from 1 (messages (j ++ s ∷ [])) ≡ message_rows_from 1 (messages j) ++ new_message_rows j s.event
+messages_after : (j : List Stamped) (s : Stamped) → message_rows_from 1 (messages (j ++ s ∷ [])) ≡ message_rows_from 1 (messages j) ++ new_message_rows j s
 messages_after j s =
     ap (message_rows_from 1) (messages-append j s)
-    ∙ (message_rows-append 1 (messages j) (option_to_list (sent_by j s.event)) ∙ ap (λ rs. message_rows_from 1 (messages j) ++ rs) (new_messages j s.event))
+    ∙ (message_rows-append 1 (messages j) (option_to_list (message_of (occurrence j s))) ∙ ap (λ rs. message_rows_from 1 (messages j) ++ rs) (new_messages (length (messages j)) (message_of (occurrence j s))))
 
 outbox_after : (j : List Stamped) (s : Stamped) → outbox_rows_from 1 (outbox (j ++ s ∷ [])) ≡ outbox_rows_from 1 (outbox j) ++ new_outbox_rows j s
 outbox_after j s =
@@ -319,10 +294,10 @@ tables_are j = record {
   outbox = outbox_are 1 (outbox j);
 }
 
-changes_are : (j : List Stamped) (s : Stamped) → AreTables (map Put (new_user_rows j s.event)) (map Put (new_message_rows j s.event)) (pending_changes j s) (map Put (new_outbox_rows j s))
+changes_are : (j : List Stamped) (s : Stamped) → AreTables (map Put (new_user_rows j s.event)) (map Put (new_message_rows j s)) (pending_changes j s) (map Put (new_outbox_rows j s))
 changes_are j s = record {
   users = new_users_are j s.event;
-  messages = new_messages_are j s.event;
+  messages = new_messages_are j s;
   pending = AllByRecursion-append (λ c. table (change_key c) ≡ 2) (map (λ n. Remove (notice_key n)) (filter (is_turn s.event) (waiting j))) (map (λ n. Put (waiting_row n)) (owed_by (occurrence j s))) (removes_are (filter (is_turn s.event) (waiting j))) (puts_are (owed_by (occurrence j s)));
   outbox = outbox_are (length (outbox j) + 1) (entries_by j s.at s.event);
 }
@@ -337,13 +312,11 @@ row_at-rows k j =
 
 -- at a key the new rows are the old with the changes of its own table
 own_after : (k : RowKey) (j : List Stamped) (s : Stamped) → row_after_all k (own k (map Put (user_rows_from (j ++ s ∷ []) 1 (people (j ++ s ∷ [])))) (map Put (message_rows_from 1 (messages (j ++ s ∷ [])))) (map Put (map waiting_row (waiting (j ++ s ∷ [])))) (map Put (outbox_rows_from 1 (outbox (j ++ s ∷ []))))) None
-    ≡ row_after_all k (own k (map Put (new_user_rows j s.event)) (map Put (new_message_rows j s.event)) (pending_changes j s) (map Put (new_outbox_rows j s))) (row_after_all k (own k (map Put (user_rows_from j 1 (people j))) (map Put (message_rows_from 1 (messages j))) (map Put (map waiting_row (waiting j))) (map Put (outbox_rows_from 1 (outbox j)))) None)
-own_after (key.User u) j s =
-    ap (λ rs. row_after_all (key.User u) rs None) (ap (map Put) (users_after j s) ∙ puts_append (user_rows_from j 1 (people j)) (new_user_rows j s.event))
-    ∙ row_after_all-append (key.User u) (map Put (user_rows_from j 1 (people j))) (map Put (new_user_rows j s.event)) None
+    ≡ row_after_all k (own k (map Put (new_user_rows j s.event)) (map Put (new_message_rows j s)) (pending_changes j s) (map Put (new_outbox_rows j s))) (row_after_all k (own k (map Put (user_rows_from j 1 (people j))) (map Put (message_rows_from 1 (messages j))) (map Put (map waiting_row (waiting j))) (map Put (outbox_rows_from 1 (outbox j)))) None)
+own_after (key.User u) j s = users-after u j s s.event refl
 own_after (key.Message m) j s =
-    ap (λ rs. row_after_all (key.Message m) rs None) (ap (map Put) (messages_after j s) ∙ puts_append (message_rows_from 1 (messages j)) (new_message_rows j s.event))
-    ∙ row_after_all-append (key.Message m) (map Put (message_rows_from 1 (messages j))) (map Put (new_message_rows j s.event)) None
+    ap (λ rs. row_after_all (key.Message m) rs None) (ap (map Put) (messages_after j s) ∙ puts_append (message_rows_from 1 (messages j)) (new_message_rows j s))
+    ∙ row_after_all-append (key.Message m) (map Put (message_rows_from 1 (messages j))) (map Put (new_message_rows j s)) None
 own_after (key.Pending u m w) j s = pending_after (key.Pending u m w) j s
 own_after (key.Outbox n) j s =
     ap (λ rs. row_after_all (key.Outbox n) rs None) (ap (map Put) (outbox_after j s) ∙ puts_append (outbox_rows_from 1 (outbox j)) (new_outbox_rows j s))
@@ -355,7 +328,7 @@ rows-append j s =
     same_rows (rows (j ++ s ∷ [])) (changed_all (changes j s) (rows j)) (rows-ascending (j ++ s ∷ [])) (IsAscending-changed_all (changes j s) (rows j) (rows-ascending j)) (λ k.
     row_at-rows k (j ++ s ∷ [])
     ∙ (own_after k j s
-    ∙ (sym (own_changes k (map Put (new_user_rows j s.event)) (map Put (new_message_rows j s.event)) (pending_changes j s) (map Put (new_outbox_rows j s)) (row_after_all k (own k (map Put (user_rows_from j 1 (people j))) (map Put (message_rows_from 1 (messages j))) (map Put (map waiting_row (waiting j))) (map Put (outbox_rows_from 1 (outbox j)))) None) (changes_are j s))
+    ∙ (sym (own_changes k (map Put (new_user_rows j s.event)) (map Put (new_message_rows j s)) (pending_changes j s) (map Put (new_outbox_rows j s)) (row_after_all k (own k (map Put (user_rows_from j 1 (people j))) (map Put (message_rows_from 1 (messages j))) (map Put (map waiting_row (waiting j))) (map Put (outbox_rows_from 1 (outbox j)))) None) (changes_are j s))
     ∙ (ap (row_after_all k (changes j s)) (sym (row_at-rows k j)) ∙ sym (row_at-changed_all k (changes j s) (rows j))))))
 
 -- the empty journal has no rows

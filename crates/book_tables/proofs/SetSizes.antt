@@ -1,6 +1,6 @@
 -- Sets of the first users, and how many users a set has.
 use Rattle.std.proofs.Common.{◌≡◌, ℕ, zero, suc, ◌+◌, ◌<◌, ◌≤◌, Bool, true, false, ◌&&◌, ◌||◌, ◌==◌, cond, not, List, [], ◌∷◌, ◌++◌, length, map, refl, sym, ap, ◌∙◌, arith, ⊎_elim, zero-add}
-use Rattle.std.specs.Prelude.{Option, Some, None, IfSome, is_some, filter, slice_get, count_by, if◌then◌else◌}
+use Rattle.std.specs.Prelude.{Option, Some, None, IfSome, is_some, filter, slice_get, count_by}
 use Rattle.std.specs.Option.{option_map_or}
 use Rattle.std.specs.List.{list_all, list_any, range_with_len, AllByRecursion}
 use Rattle.std.proofs.lemmas.Bool.{eqb-true}

@@ -3,7 +3,7 @@ use Rattle.std.proofs.Common.{◌≡◌, ℕ, zero, suc, ◌+◌, ◌<◌, ◌�
 use Rattle.std.specs.Prelude.{option_map, nat_lt, nat_le, find, fold, filter, not, option_to_list, if◌then◌else◌}
 use Rattle.std.specs.Option.{option_map_or}
 use Rattle.std.specs.List.{AllByRecursion, filter_map, flat_map, cons_option, reduce, range_with_len}
-use Rattle.std.proofs.lemmas.Bool.{cases_lt, lt-ltb, le-ltb, ltb-true, eqb-true, eq-eqb}
+use Rattle.std.proofs.lemmas.Bool.{cases_lt, ltb-true, eqb-true, eq-eqb}
 use Rattle.std.proofs.lemmas.Bool.Decides.{nat_tests}
 use Rattle.std.proofs.lemmas.List.{append-nil, length-append}
 use Rattle.chat_model.specs.declared.event.Stamped.{Stamped}
@@ -13,15 +13,16 @@ use Rattle.chat_model.specs.declared.trigger.Way.TheVariants.{Mail, Push}
 use Rattle.notice_ledger.specs.Past.Journal.{Occurrence, occurrence, last_stamp}
 use Rattle.chat_model.specs.declared.trigger.Trigger.{Trigger}
 use Rattle.notice_ledger.specs.Past.Values.{SentMessage, message_of, person_of, people, users, messages, deal_count}
-use Rattle.notice_ledger.specs.Past.Triggers.{trigger}
+use Rattle.notice_ledger.specs.Past.Triggers.{trigger, came_by}
 use Rattle.notice_ledger.specs.Past.Owed.{Notice, waiting, owed_by, owed_of, notice_of, same_way}
-use Rattle.notice_ledger.specs.Past.Due.{DueUser, due, due_user, first_due, sooner}
+use Rattle.notice_ledger.specs.Past.Due.{DueUser, due_user, first_due, sooner}
 use Rattle.notice_ledger.specs.Past.Lawful as past
 use Rattle.notice_ledger.specs.Lawful.{kept_from, lawful}
-use Rattle.notice_ledger.proofs.Lists.{AllByRecursion-append, AllByRecursion-weaker, AllByRecursion-flat_map, by_appending}
-use Rattle.notice_ledger.proofs.Appended.{people-append, people-nil, last_stamp-append}
+use Rattle.notice_ledger.proofs.Lists.{AllByRecursion-append, AllByRecursion-weaker}
+use Rattle.notice_ledger.proofs.Appended.{people-append, last_stamp-append}
 use Rattle.notice_ledger.proofs.Ascending.{Ascends, Ascends-append, Ascends-filter, Ascends-level, AllByRecursion-filter}
 use Rattle.notice_ledger.proofs.Waiting.{IsOwedBy, owed_by-each, is_turn, waiting-append, waiting-nil}
+use Rattle.notice_ledger.proofs.SettingLemmas.{settings-period}
 use Rattle.notice_ledger.proofs.Batches.{is_mail_of, due-waiting}
 use Rattle.book_tables.specs.declared.tables.Waiting.{Waiting}
 use Rattle.book_tables.specs.declared.tables.Tables.{Tables}
@@ -219,6 +220,7 @@ notice_by o m u w t = option_map (λ (t : Trigger). let n : Notice = record {
   way = w;
   message = m;
   trigger = t;
+  via = came_by o.past m.text u t;
   deal = record { 0 = deal_count o.past };
   owing = o;
 } in n) t
@@ -237,7 +239,7 @@ owed-within o =
     given m u w (Some t) it ns all = (it, all)
 
     to_user : (m : SentMessage) (u : UserId) → IsWithin (length (people o.past)) u → AllByRecursion (λ n. IsWithin (length (people o.past)) n.user) (filter_map (notice_of o m u) (Mail ∷ Push ∷ []))
-    to_user m u it = given m u Mail (trigger m u Mail) it (cons_option (notice_of o m u Push) []) (given m u Push (trigger m u Push) it [] tt)
+    to_user m u it = given m u Mail (trigger o.past m m.text u Mail) it (cons_option (notice_of o m u Push) []) (given m u Push (trigger o.past m m.text u Push) it [] tt)
 
 waits-nil : Waits []
 waits-nil = record {
@@ -412,7 +414,7 @@ due_users j (u ∷ us) =
     twice u (Some n) = refl
 
     one : (u : UserId) → first_of_user (waiting j) u ≡ due_user j u
-    one u = twice u (find (is_mail_of u) (waiting j)) ∙ ap (option_map (λ (m : ℕ). let d : DueUser = record { due = m; user = u } in d)) (sym (due-waiting j u))
+    one u = twice u (find (is_mail_of u) (waiting j)) ∙ ap (option_map (λ (m : ℕ). let d : DueUser = record { due = m; user = u } in d)) (ap (λ p. option_map (λ (n : Notice). n.owing.at + p) (find (is_mail_of u) (waiting j))) (sym (settings-period j u)) ∙ sym (due-waiting j u))
 
 -- the least due moment of the notices that wait is that of the first who is due
 pub soonest-first_due : (t : Tables) (j : List Stamped) → Holds t (lawful j) → soonest t.waiting.items ≡ first_due (lawful j)

@@ -1,9 +1,9 @@
 -- What look-ups in tables that stand for a journal give.
-use Rattle.std.proofs.Common.{◌≡◌, ℕ, zero, suc, ◌+◌, Bool, true, false, ◌&&◌, ◌||◌, cond, not, List, [], ◌∷◌, length, map, refl, sym, ap, ◌∙◌}
-use Rattle.std.specs.Prelude.{Option, Some, None, option_map, is_some, unwrap_or, filter, find, slice_get, nat_lt, count_by}
+use Rattle.std.proofs.Common.{◌≡◌, ℕ, zero, suc, ◌+◌, Bool, true, false, ◌&&◌, ◌||◌, cond, List, [], ◌∷◌, length, map, refl, sym, ap, ◌∙◌}
+use Rattle.std.specs.Prelude.{Option, Some, None, option_map, is_some, unwrap_or, filter, find, slice_get, count_by}
 use Rattle.std.specs.Str.{str_eq_ignore_ascii_case}
 use Rattle.std.specs.Option.{option_map_or}
-use Rattle.std.specs.List.{list_all, list_any, reduce, filter_map, cons_option, range_with_len, AllByRecursion}
+use Rattle.std.specs.List.{list_all, list_any, filter_map, cons_option}
 use Rattle.std.proofs.lemmas.List.{length-map}
 use Rattle.chat_model.specs.declared.event.Stamped.{Stamped}
 use Rattle.chat_model.specs.declared.ids.UserId.{UserId}
@@ -11,8 +11,10 @@ use Rattle.chat_model.specs.declared.ids.ChannelId.{ChannelId}
 use Rattle.chat_model.specs.declared.ids.GroupId.{GroupId}
 use Rattle.chat_model.specs.declared.mentions.UserName.{UserName}
 use Rattle.chat_model.specs.declared.mentions.GroupName.{GroupName}
-use Rattle.notice_ledger.specs.Past.Values.{numbered, Person, people, named_from, user_names, user_name, users, is_user, is_bot, messages, deal_count, named_groups_from, groups, group_names, group_name, is_group, is_member, member_count, channels, is_channel, channel_name, subscribed, subscriber_count}
-use Rattle.notice_ledger.specs.Past.Owed.{waiting}
+use Rattle.notice_ledger.specs.Past.Values.{numbered, Person, people, named_from, user_names, user_name, users, is_user, messages, deal_count, named_groups_from, groups, group_names, group_name, is_group, is_member, member_count, channels, subscribed, subscriber_count}
+use Rattle.notice_ledger.specs.Past.Owed.{Notice, waiting}
+use Rattle.notice_ledger.specs.Past.Outbox.{outbox}
+use Rattle.notice_ledger.proofs.SettingLemmas.{settings-period}
 use Rattle.notice_ledger.specs.Past.Due.{due, batch_rows}
 use Rattle.notice_ledger.specs.Past.Refusals.{is_taken}
 use Rattle.chat_model.specs.declared.counts.Counts.{Counts}
@@ -25,7 +27,6 @@ use Rattle.book_tables.specs.declared.tables.Waiting.{Waiting}
 use Rattle.book_tables.specs.declared.tables.Tables.{Tables}
 use Rattle.book_tables.specs.UserSets.{has_in, size_in}
 use Rattle.book_tables.specs.Tables.{Holds, message_kept, notice_kept, is_mail_to}
-use Rattle.book_tables.proofs.Numbered.{numbered-map}
 use Rattle.book_tables.proofs.SetSizes.{size_in-counted}
 
 -- ---- lists
@@ -66,15 +67,6 @@ pub filter_map-map : {A B C : Type 0} (h : B → Option C) (f : A → B) (xs : L
 filter_map-map h f [] = refl
 filter_map-map h f (x ∷ xs) = ap (cons_option (h (f x))) (filter_map-map h f xs)
 
-pub filter_map-same : {A B : Type 0} (g h : A → Option B) → ((x : A) → g x ≡ h x) → (xs : List A) → filter_map g xs ≡ filter_map h xs
-filter_map-same g h same [] = refl
-filter_map-same g h same (x ∷ xs) = ap (λ o. cons_option o (filter_map g xs)) (same x) ∙ ap (cons_option (h x)) (filter_map-same g h same xs)
-
--- where each element that has P gives something
-pub filter_map-given : {A B : Type 0} (P : A → Type 0) (h : A → Option B) (g : A → B) → ((x : A) → P x → h x ≡ Some (g x)) → (xs : List A) → AllByRecursion P xs → filter_map h xs ≡ map g xs
-filter_map-given P h g given [] all = refl
-filter_map-given P h g given (x ∷ xs) all = ap (λ o. cons_option o (filter_map h xs)) (given x all.0) ∙ ap (λ ys. g x ∷ ys) (filter_map-given P h g given xs all.1)
-
 -- ---- users
 
 name_at : (n : ℕ) (ps : List Person) (k : ℕ) → option_map (λ (u : UserName). u.name) (slice_get (named_from n ps) k) ≡ option_map (λ (p : Person). p.name) (slice_get ps k)
@@ -85,14 +77,6 @@ name_at n (p ∷ ps) (suc k) = name_at (n + 1) ps k
 name_numbered : (j : List Stamped) (n : ℕ) → option_map (λ (u : UserName). u.name) (numbered n (user_names j)) ≡ option_map (λ (p : Person). p.name) (numbered n (people j))
 name_numbered j zero = refl
 name_numbered j (suc n) = name_at 1 (people j) n
-
--- the numbers of the named users
-ids_from : (n : ℕ) (ps : List Person) → map (λ (u : UserName). u.id) (named_from n ps) ≡ map (λ k. let u : UserId = record { 0 = k } in u) (range_with_len n (length ps))
-ids_from n [] = refl
-ids_from n (p ∷ ps) = ap (λ us. record { 0 = n } ∷ us) (ids_from (n + 1) ps)
-
-pub ids-user_names : (j : List Stamped) → map (λ (u : UserName). u.id) (user_names j) ≡ users j
-ids-user_names j = ids_from 1 (people j)
 
 -- ---- groups
 
@@ -112,16 +96,17 @@ taken_from n (other ∷ names) name = ap (λ b. str_eq_ignore_ascii_case name ot
 count_same : (p q : UserId → Bool) → ((u : UserId) → p u ≡ q u) → (us : List UserId) → count_by p us ≡ count_by q us
 count_same p q same us = sum_by_same (λ u. cond (p u) 1 0) (λ u. cond (q u) 1 0) (λ u. ap (λ b. cond b 1 0) (same u)) us
 
--- the counts where so many notices wait and the outbox has so many entries, each of one handed notice
-abbrev pub counted : ℕ → ℕ → Counts
-counted waiting entries = record {
+-- the counts where so many notices wait, the outbox has so many entries, each of one handed notice, and so many were
+-- switched off
+abbrev pub counted : ℕ → ℕ → ℕ → Counts
+counted waiting entries off = record {
   flight = 0;
   held = 0;
   ready = in_64_bits waiting;
   handed = in_64_bits entries;
   read = 0;
   deleted = 0;
-  off = 0;
+  off = off;
   live = 0;
   entries = in_64_bits entries;
   waiting = 0;
@@ -148,11 +133,6 @@ module _ (t : Tables) (past : List Stamped) (holds : Holds t past) where
   group_name-there g =
       ap (λ gs. option_map_or (λ (n : GroupName). n.name) (numbered g.0 gs) []) holds.groups
       ∙ (sym (unwrap-map (λ (n : GroupName). n.name) (numbered g.0 (group_names past)) []) ∙ ap (λ o. unwrap_or o []) (group_numbered past g.0))
-
-  pub bot-there : (u : UserId) → unwrap_or (numbered u.0 t.bots.items) false ≡ is_bot past u
-  bot-there u =
-      ap (λ bs. unwrap_or (numbered u.0 bs) false) holds.bots
-      ∙ (ap (λ o. unwrap_or o false) (numbered-map (λ (p : Person). p.bot) u.0 (people past)) ∙ unwrap-map (λ (p : Person). p.bot) (numbered u.0 (people past)) false)
 
   -- a group is as large as the journal says
   pub members-counted : (g : GroupId) → size_in t.members.items g.0 ≡ member_count past g
@@ -187,13 +167,15 @@ module _ (t : Tables) (past : List Stamped) (holds : Holds t past) where
   pub due-there : (u : UserId) → option_map (λ (w : Waiting). w.ready + 120) (find (is_mail_to u) t.waiting.items) ≡ due past u
   due-there u =
       ap (λ ws. option_map (λ (w : Waiting). w.ready + 120) (find (is_mail_to u) ws)) holds.waiting
-      ∙ (ap (option_map (λ (w : Waiting). w.ready + 120)) (find-map (is_mail_to u) notice_kept (waiting past)) ∙ (map-map (λ (w : Waiting). w.ready + 120) notice_kept (find (is_mail_of u) (waiting past)) ∙ sym (due-waiting past u)))
+      ∙ (ap (option_map (λ (w : Waiting). w.ready + 120)) (find-map (is_mail_to u) notice_kept (waiting past)) ∙ (map-map (λ (w : Waiting). w.ready + 120) notice_kept (find (is_mail_of u) (waiting past))
+      ∙ (ap (λ p. option_map (λ (n : Notice). n.owing.at + p) (find (is_mail_of u) (waiting past))) (sym (settings-period past u)) ∙ sym (due-waiting past u))))
 
-  pub counts-there : counted (length t.waiting.items) (length t.outbox.items) ≡ counts_of past
+  pub counts-there : counted (length t.waiting.items) (length t.outbox.items) t.off ≡ counts_of past
   counts-there =
-      ap (λ ws. counted (length ws) (length t.outbox.items)) holds.waiting
-      ∙ (ap (λ k. counted k (length t.outbox.items)) (length-map (waiting past) notice_kept)
-      ∙ (ap (λ es. counted (length (waiting past)) (length es)) holds.outbox ∙ sym (counts_of-waiting past)))
+      ap (λ ws. counted (length ws) (length t.outbox.items) t.off) holds.waiting
+      ∙ (ap (λ k. counted k (length t.outbox.items) t.off) (length-map (waiting past) notice_kept)
+      ∙ (ap (λ es. counted (length (waiting past)) (length es) t.off) holds.outbox
+      ∙ (ap (counted (length (waiting past)) (length (outbox past))) holds.off ∙ sym (counts_of-waiting past))))
 
   -- ---- how many there are
 

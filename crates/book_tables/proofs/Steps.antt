@@ -50,10 +50,6 @@ pub map-flat_map : {A B C : Type 0} (f : B → C) (g : A → List B) (xs : List 
 map-flat_map f g [] = refl
 map-flat_map f g (x ∷ xs) = map-append f (g x) (flat_map g xs) ∙ ap (λ ys. map f (g x) ++ ys) (map-flat_map f g xs)
 
-pub flat_map-none : {A B : Type 0} (f : A → List B) → ((x : A) → f x ≡ []) → (xs : List A) → flat_map f xs ≡ []
-flat_map-none f none [] = refl
-flat_map-none f none (x ∷ xs) = ap (λ ys. ys ++ flat_map f xs) (none x) ∙ flat_map-none f none xs
-
 -- one more element to filter and reduce
 pub reduce_filter-push : {A : Type 0} (f : A → A → A) (p : A → Bool) (xs : List A) (x : A) (o : Option A) → p x ≡ true → o ≡ reduce f (filter p xs) → Some (option_map_or (λ a. f a x) o x) ≡ reduce f (filter p (xs ++ x ∷ []))
 reduce_filter-push f p xs x o passes so_far =

@@ -2,33 +2,25 @@
 use Rattle.std.proofs.Common.{◌≡◌, ℕ, zero, suc, ◌+◌, Bool, true, false, ◌&&◌, ◌||◌, ◌==◌, eqb, cond, not, List, [], ◌∷◌, ◌++◌, length, map, refl, sym, ap, ◌∙◌, arith, ⊎_elim}
 use Rattle.std.specs.Prelude.{Option, Some, None, option_map, is_some, unwrap_or, filter, slice_get, if◌then◌else◌}
 use Rattle.std.specs.Option.{option_map_or}
-use Rattle.std.specs.List.{list_any}
 use Rattle.std.proofs.lemmas.Bool.{eqb-true}
 use Rattle.std.proofs.lemmas.Bool.Decides.{nat_tests, eqb_tells}
 use Rattle.chat_model.proofs.OnceEach.{put_once-has}
 use Rattle.chat_model.specs.declared.ids.UserId.{UserId}
 use Rattle.notice_ledger.specs.Past.Values.{numbered, is_one_of}
 use Rattle.book_tables.specs.declared.user_set.UserSet.{UserSet}
-use Rattle.book_tables.specs.UserSets.{users_in, has_in, size_in, users_after, changed_at, changed_numbered}
+use Rattle.book_tables.specs.UserSets.{users_in, has_in, users_after, changed_at, changed_numbered}
 use Rattle.book_tables.proofs.Numbered.{numbered-map}
 
 -- the user is in the set of a number
 abbrev pub is_in : List (List UserId) → ℕ → UserId → Bool
 is_in sets n u = option_map_or (λ us. is_one_of us u) (numbered n sets) false
 
--- how many users the set of a number has
-abbrev pub size_of : List (List UserId) → ℕ → ℕ
-size_of sets n = option_map_or length (numbered n sets) 0
-
-or-map : {A B C : Type 0} (f : B → C) (g : A → B) (o : Option A) (d : C) → option_map_or f (option_map g o) d ≡ option_map_or (λ x. f (g x)) o d
+pub or-map : {A B C : Type 0} (f : B → C) (g : A → B) (o : Option A) (d : C) → option_map_or f (option_map g o) d ≡ option_map_or (λ x. f (g x)) o d
 or-map f g None d = refl
 or-map f g (Some x) d = refl
 
 pub has_in-sets : (cs : List UserSet) (n : ℕ) (u : UserId) → has_in cs n u ≡ is_in (map users_in cs) n u
 has_in-sets cs n u = sym (ap (λ o. option_map_or (λ (us : List UserId). is_one_of us u) o false) (numbered-map users_in n cs) ∙ or-map (λ (us : List UserId). is_one_of us u) users_in (numbered n cs) false)
-
-pub size_in-sets : (cs : List UserSet) (n : ℕ) → size_in cs n ≡ size_of (map users_in cs) n
-size_in-sets cs n = sym (ap (λ (o : Option (List UserId)). option_map_or length o 0) (numbered-map users_in n cs) ∙ or-map (λ (us : List UserId). length us) users_in (numbered n cs) 0)
 
 -- ---- a set is added
 
@@ -53,7 +45,7 @@ slice_get-pushed {A} [] y (suc n) = let none : Option A = None in ap (λ b. cond
 slice_get-pushed (x ∷ xs) y zero = ap (λ b. cond b (Some y) (Some x)) (sym (eqb-suc_zero (length xs)))
 slice_get-pushed (x ∷ xs) y (suc n) = slice_get-pushed xs y n ∙ ap (λ b. cond b (Some y) (slice_get xs n)) (sym (eqb-suc (length xs) n))
 
-numbered-pushed : {A : Type 0} (xs : List A) (y : A) (n : ℕ) → numbered n (xs ++ y ∷ []) ≡ cond (eqb (length xs + 1) n) (Some y) (numbered n xs)
+pub numbered-pushed : {A : Type 0} (xs : List A) (y : A) (n : ℕ) → numbered n (xs ++ y ∷ []) ≡ cond (eqb (length xs + 1) n) (Some y) (numbered n xs)
 numbered-pushed xs y zero = ap (λ b. cond b (Some y) None) (sym (eqb-plus_one_zero (length xs)))
 numbered-pushed xs y (suc n) = slice_get-pushed xs y n ∙ ap (λ b. cond b (Some y) (slice_get xs n)) (sym (eqb-plus_one (length xs) n))
 

@@ -12,6 +12,7 @@ use Rattle.book_tables.specs.declared.prepared.Effect.{Effect}
 use Rattle.book_tables.specs.declared.prepared.Effect.TheVariants as effect
 use Rattle.book_tables.specs.UserSets.{users_in, users_after, changed_numbered}
 use Rattle.book_tables.specs.Tables.{is_mail_to}
+use Rattle.book_tables.specs.Preferences.{Preferred, preferred, default_preferred, preferred_after}
 
 -- the number of starts after an effect
 abbrev pub starts_after : Effect → ℕ → ℕ
@@ -27,6 +28,12 @@ names_after _ names = names
 abbrev pub bots_after : Effect → List Bool → List Bool
 bots_after (effect.User user bot) bots = bots ++ bot ∷ []
 bots_after _ bots = bots
+
+-- what users prefer after an effect
+abbrev pub preferences_after : Effect → List Preferred → List Preferred
+preferences_after (effect.User user bot) all = all ++ default_preferred ∷ []
+preferences_after (effect.Preference user change) all = changed_numbered user.0 (preferred_after change) all
+preferences_after _ all = all
 
 -- the groups after an effect
 abbrev pub groups_after : Effect → List GroupName → List GroupName
@@ -58,7 +65,7 @@ messages_after _ messages = messages
 -- the notices that wait after an effect
 abbrev pub waiting_after : Effect → List Waiting → List Waiting
 waiting_after (effect.Message message new deal) waiting = waiting ++ new.items
-waiting_after (effect.Mailed user entries) waiting = filter (λ w. not (is_mail_to user w)) waiting
+waiting_after (effect.Mailed user entries off) waiting = filter (λ w. not (is_mail_to user w)) waiting
 waiting_after _ waiting = waiting
 
 -- the deals after an effect
@@ -68,14 +75,20 @@ deals_after _ deals = deals
 
 -- the outbox after an effect
 abbrev pub outbox_after : Effect → List Entry → List Entry
-outbox_after (effect.Mailed user entries) outbox = outbox ++ entries.items
+outbox_after (effect.Mailed user entries off) outbox = outbox ++ entries.items
 outbox_after _ outbox = outbox
+
+-- how many notices were switched off after an effect
+abbrev pub off_after : Effect → ℕ → ℕ
+off_after (effect.Mailed user entries off) before = min (before + off) (2 ^ 64 - 1)
+off_after _ before = before
 
 -- the tables after an effect, the last stamp aside
 pub record IsApplied (old new : Tables) (e : Effect) : Type 0 where
   pub starts : new.starts ≡ starts_after e old.starts
   pub names : new.names.items ≡ names_after e old.names.items
   pub bots : new.bots.items ≡ bots_after e old.bots.items
+  pub preferences : map preferred new.preferences.items ≡ preferences_after e (map preferred old.preferences.items)
   pub groups : new.groups.items ≡ groups_after e old.groups.items
   pub members : map users_in new.members.items ≡ members_after e (map users_in old.members.items)
   pub channels : new.channels.items ≡ channels_after e old.channels.items
@@ -84,6 +97,7 @@ pub record IsApplied (old new : Tables) (e : Effect) : Type 0 where
   pub waiting : new.waiting.items ≡ waiting_after e old.waiting.items
   pub deals : new.deals.items ≡ deals_after e old.deals.items
   pub outbox : new.outbox.items ≡ outbox_after e old.outbox.items
+  pub off : new.off ≡ off_after e old.off
 
 -- the tables hold the same
 pub record HoldTheSame (old new : Tables) : Type 0 where
@@ -91,6 +105,7 @@ pub record HoldTheSame (old new : Tables) : Type 0 where
   pub starts : new.starts ≡ old.starts
   pub names : new.names.items ≡ old.names.items
   pub bots : new.bots.items ≡ old.bots.items
+  pub preferences : map preferred new.preferences.items ≡ map preferred old.preferences.items
   pub groups : new.groups.items ≡ old.groups.items
   pub members : map users_in new.members.items ≡ map users_in old.members.items
   pub channels : new.channels.items ≡ old.channels.items
@@ -99,3 +114,4 @@ pub record HoldTheSame (old new : Tables) : Type 0 where
   pub waiting : new.waiting.items ≡ old.waiting.items
   pub deals : new.deals.items ≡ old.deals.items
   pub outbox : new.outbox.items ≡ old.outbox.items
+  pub off : new.off ≡ old.off

@@ -1,5 +1,8 @@
 pub mod UserSets
+pub mod TopicKeys
+pub mod Preferences
 pub mod Tables
+pub mod Gathered
 pub mod Rules
 pub mod Soonest
 pub mod Applied

@@ -1,9 +1,9 @@
 -- What is prepared for an event: the changes of the rows, and the effect on the tables.
-use Rattle.std.specs.Prelude.{◌≡◌, ◌+◌, ℕ, true, List, ◌∷◌, length, map}
+use Rattle.std.specs.Prelude.{◌≡◌, ◌+◌, ℕ, true, List, length, map}
 use Rattle.chat_model.specs.declared.event.Stamped.{Stamped}
 use Rattle.chat_model.specs.declared.event.Event.{Event}
 use Rattle.chat_model.specs.declared.event.Event.TheVariants.{Restart, Asked, MailTurn}
-use Rattle.chat_model.specs.declared.request.Request.TheVariants.{AddUser, AddGroup, Member, AddChannel, Subscribe, Send}
+use Rattle.chat_model.specs.declared.request.Request.TheVariants.{AddUser, AddGroup, Member, AddChannel, Subscribe, Set, SetChannel, SetPolicy, Mute, Send, Direct}
 use Rattle.chat_model.specs.declared.ids.UserId.{UserId}
 use Rattle.chat_model.specs.declared.mentions.GroupName.{GroupName}
 use Rattle.chat_model.specs.declared.row.Row.{Row}
@@ -27,7 +27,10 @@ use Rattle.book_tables.specs.declared.prepared.Effect.{Effect}
 use Rattle.book_tables.specs.declared.prepared.Effect.TheVariants as effect
 use Rattle.book_tables.specs.declared.prepared.Prepared.{Prepared}
 use Rattle.book_tables.specs.UserSets.{users_in}
-use Rattle.book_tables.specs.Tables.{StandsFor, notice_kept, send_of}
+use Rattle.notice_ledger.specs.declared.destination.Destination.{Destination}
+use Rattle.notice_ledger.specs.declared.destination.Destination.TheVariants as destination
+use Rattle.book_tables.specs.declared.preferences.Preference.TheVariants as preference
+use Rattle.book_tables.specs.Tables.{StandsFor, notice_kept, send_of, switched_at}
 use Rattle.book_tables.specs.Changes.{changes}
 
 -- the row of a notice that waits
@@ -48,10 +51,16 @@ abbrev pub IsMessage : Effect → Message → List Waiting → Deal → Type 0
 IsMessage (effect.Message message waiting deal) m ws d = (message ≡ m) × (waiting.items ≡ ws) × (deal ≡ d)
 IsMessage _ m ws d = ⊥
 
--- the effect hands these entries to the user
-abbrev pub IsMailed : Effect → UserId → List Entry → Type 0
-IsMailed (effect.Mailed user entries) u es = (user ≡ u) × (entries.items ≡ es)
-IsMailed _ u es = ⊥
+-- the effect hands these entries to the user, and switches so many notices off
+abbrev pub IsMailed : Effect → UserId → List Entry → ℕ → Type 0
+IsMailed (effect.Mailed user entries off) u es n = (user ≡ u) × (entries.items ≡ es) × (off ≡ n)
+IsMailed _ u es n = ⊥
+
+-- the effect adds the message of a send with what it owes
+abbrev pub IsSendOf : List Stamped → ℕ → UserId → Destination → List ℕ → Effect → Type 0
+IsSendOf past at sender to text e =
+    let m : Message = record { sender = sender; to = to; text = text } in
+    let o = occurrence past (send_of at m) in IsMessage e m (map notice_kept (owed_by o)) (deal_of o)
 
 -- the effect is that of an event at a stamp, behind these
 abbrev pub IsEffectOf : List Stamped → ℕ → Event → Effect → Type 0
@@ -61,10 +70,13 @@ IsEffectOf past at (Asked (AddGroup name members)) e = IsGroup e (record { id = 
 IsEffectOf past at (Asked (Member group user on)) e = e ≡ effect.Membership group user on
 IsEffectOf past at (Asked (AddChannel name)) e = e ≡ effect.Channel name
 IsEffectOf past at (Asked (Subscribe user channel on)) e = e ≡ effect.Subscription channel user on
-IsEffectOf past at (Asked (Send sender channel topic text)) e =
-    let m : Message = record { sender = sender; channel = channel; topic = topic; text = text } in
-    IsMessage e m (map notice_kept (owed_by (occurrence past (send_of at m)))) (deal_of (occurrence past (send_of at m)))
-IsEffectOf past at (MailTurn user) e = IsMailed e user (mail_entries past at user)
+IsEffectOf past at (Asked (Set user change)) e = e ≡ effect.Preference user (preference.Setting change)
+IsEffectOf past at (Asked (SetChannel user channel change)) e = e ≡ effect.Preference user (preference.Specific channel change)
+IsEffectOf past at (Asked (SetPolicy user channel topic policy)) e = e ≡ effect.Preference user (preference.Policy channel topic policy)
+IsEffectOf past at (Asked (Mute user other on)) e = e ≡ effect.Preference user (preference.Mute other on)
+IsEffectOf past at (Asked (Send sender channel topic text)) e = IsSendOf past at sender (destination.Channel channel topic) text e
+IsEffectOf past at (Asked (Direct sender to text)) e = IsSendOf past at sender (destination.Direct to) text e
+IsEffectOf past at (MailTurn user) e = IsMailed e user (mail_entries past at user) (switched_at past user)
 
 -- it was prepared for this event behind these, which all count
 pub record Follows (past : List Stamped) (s : Stamped) (p : Prepared) : Type 0 where

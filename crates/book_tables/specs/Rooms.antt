@@ -5,12 +5,14 @@ use Rattle.book_tables.specs.declared.tables.Tables.{Tables}
 use Rattle.book_tables.specs.declared.prepared.Effect.{Effect}
 use Rattle.book_tables.specs.declared.prepared.Effect.TheVariants as effect
 use Rattle.book_tables.specs.declared.prepared.Prepared.{Prepared}
+use Rattle.book_tables.specs.Preferences.{HasPlaceFor}
 use Rattle.book_tables.specs.UserSets.{HasPlace}
 
 -- the tables have room for the effect: a user who leaves a set needs none
 abbrev pub HasRoom : Tables → Effect → Type 0
 HasRoom t effect.Start = Unit {0}
-HasRoom t (effect.User user bot) = (vec_len t.names < vec_capacity t.names) × (vec_len t.bots < vec_capacity t.bots)
+HasRoom t (effect.User user bot) = (vec_len t.names < vec_capacity t.names) × (vec_len t.bots < vec_capacity t.bots) × (vec_len t.preferences < vec_capacity t.preferences)
+HasRoom t (effect.Preference user change) = IfSome (numbered user.0 t.preferences.items) (HasPlaceFor change)
 HasRoom t (effect.Group group members) = (vec_len t.groups < vec_capacity t.groups) × (vec_len t.members < vec_capacity t.members)
 HasRoom t (effect.Membership group user on) = on ≡ true → IfSome (numbered group.0 t.members.items) HasPlace
 HasRoom t (effect.Channel name) = (vec_len t.channels < vec_capacity t.channels) × (vec_len t.subscribers < vec_capacity t.subscribers)
@@ -18,7 +20,7 @@ HasRoom t (effect.Subscription channel user on) = on ≡ true → IfSome (number
 HasRoom t (effect.Message message waiting deal) =
     (vec_len t.messages < vec_capacity t.messages) × (vec_len t.waiting + vec_len waiting ≤ vec_capacity t.waiting)
     × (vec_len t.deals < vec_capacity t.deals)
-HasRoom t (effect.Mailed user entries) = vec_len t.outbox + vec_len entries ≤ vec_capacity t.outbox
+HasRoom t (effect.Mailed user entries off) = vec_len t.outbox + vec_len entries ≤ vec_capacity t.outbox
 
 -- the tables have room for what was prepared
 abbrev pub HasRoomFor : Tables → Prepared → Type 0

@@ -1,53 +1,62 @@
 -- When the tables stand for a journal.
-use Rattle.std.specs.Prelude.{◌≡◌, ℕ, ◌+◌, Option, Bool, ◌&&◌, ◌==◌, List, length, map}
+use Rattle.std.specs.Prelude.{◌≡◌, ℕ, Bool, ◌&&◌, ◌==◌, List, [], ◌∷◌, length, map, if◌then◌else◌}
+use Rattle.std.specs.List.{filter_map}
 use Rattle.chat_model.specs.declared.event.Stamped.{Stamped}
 use Rattle.chat_model.specs.declared.event.Event.TheVariants.{Asked}
-use Rattle.chat_model.specs.declared.request.Request.TheVariants.{Send}
+use Rattle.chat_model.specs.declared.request.Request.TheVariants.{Send, Direct}
 use Rattle.chat_model.specs.declared.ids.UserId.{UserId}
 use Rattle.chat_model.specs.declared.ids.ChannelId.{ChannelId}
 use Rattle.chat_model.specs.declared.ids.GroupId.{GroupId}
-use Rattle.chat_model.specs.declared.trigger.Trigger.TheVariants.{Mention}
-use Rattle.chat_model.specs.declared.trigger.Way.{Way}
+use Rattle.chat_model.specs.declared.request.Request.{Request}
+use Rattle.chat_model.specs.declared.row.Cause.TheVariants.{SwitchedOff}
 use Rattle.chat_model.specs.declared.trigger.Way.TheVariants as ways
-use Rattle.notice_ledger.specs.Past.Journal.{last_stamp}
+use Rattle.notice_ledger.specs.Past.Journal.{last_stamp, occurrence}
 use Rattle.notice_ledger.specs.Past.Values.{SentMessage, people, user_names, groups, group_names, is_member, channels, messages, subscribed}
-use Rattle.notice_ledger.specs.Past.Triggers.{came_by}
-use Rattle.notice_ledger.specs.Past.Owed.{Notice, waiting, same_way}
+use Rattle.notice_ledger.specs.declared.accounts.Account.TheVariants.{Cancelled}
+use Rattle.notice_ledger.specs.declared.destination.Destination.{Destination}
+use Rattle.notice_ledger.specs.declared.destination.Destination.TheVariants as destination
+use Rattle.notice_ledger.specs.Past.Owed.{Notice, notice_of, waiting, same_way, switch_on}
 use Rattle.notice_ledger.specs.Past.Deals.{deals}
 pub use Rattle.notice_ledger.specs.Past.Runs.{start_count}
-use Rattle.notice_ledger.specs.Past.Due.{DueUser}
+use Rattle.notice_ledger.specs.Past.Due.{DueUser, batch_rows}
 use Rattle.notice_ledger.specs.Past.Outbox.{outbox}
-use Rattle.notice_ledger.specs.Past.Audit.{in_64_bits}
+use Rattle.notice_ledger.specs.Past.Audit.{in_64_bits, owed_with}
 use Rattle.notice_ledger.specs.Lawful.{lawful}
 use Rattle.book_tables.specs.declared.tables.Message.{Message}
 use Rattle.book_tables.specs.declared.tables.Waiting.{Waiting}
 use Rattle.book_tables.specs.declared.tables.DueUser.{DueUser as FoundDue}
 use Rattle.book_tables.specs.declared.tables.Tables.{Tables}
 use Rattle.book_tables.specs.UserSets.{has_in, AreUserSets}
+use Rattle.book_tables.specs.Preferences.{preferred_in, preferred_by}
 
 -- a message as the tables keep it
 abbrev pub message_kept : SentMessage → Message
-message_kept m = record { sender = m.sender; channel = m.channel; topic = m.topic; text = m.text }
+message_kept m = record { sender = m.sender; to = m.to; text = m.text }
 
 -- a notice as the tables keep it
 abbrev pub notice_kept : Notice → Waiting
-notice_kept n = record { user = n.user; message = n.number; way = n.way; trigger = n.trigger; deal = n.deal; via = came_by n.message n.user; ready = n.owing.at }
+notice_kept n = record { user = n.user; message = n.number; way = n.way; trigger = n.trigger; deal = n.deal; via = n.via; ready = n.owing.at }
+
+-- the request that sends a message
+abbrev pub request_to : UserId → Destination → List ℕ → Request
+request_to sender (destination.Channel channel topic) text = Send sender channel topic text
+request_to sender (destination.Direct to) text = Direct sender to text
 
 -- the send of a message at a stamp
 abbrev pub send_of : ℕ → Message → Stamped
-send_of at m = record { at = at; event = Asked (Send m.sender m.channel m.topic m.text) }
+send_of at m = record { at = at; event = Asked (request_to m.sender m.to m.text) }
 
--- a notice of the message behind so many, for a mention
-abbrev pub next_notice : ℕ → ℕ → Option GroupId → UserId → Way → Waiting
-next_notice many at via u way = record {
-  user = u;
-  message = record { 0 = many + 1 };
-  way = way;
-  trigger = Mention;
-  via = via;
-  deal = record { 0 = many };
-  ready = at;
-}
+-- the message behind these events
+abbrev pub sent_after : List Stamped → Message → SentMessage
+sent_after past m = record { past = past; sender = m.sender; to = m.to; text = m.text }
+
+-- what the send of a message behind these owes a user, mail before push
+abbrev pub owed_user : List Stamped → ℕ → Message → UserId → List Waiting
+owed_user past at m u = map notice_kept (filter_map (notice_of (occurrence past (send_of at m)) (sent_after past m) u) (ways.Mail ∷ ways.Push ∷ []))
+
+-- how many notices a mail turn of the user behind these switches off
+abbrev pub switched_at : List Stamped → UserId → ℕ
+switched_at past u = if switch_on past u ways.Mail then 0 else length (batch_rows past u)
 
 -- the tables hold what these events, which all count, leave
 pub record Holds (t : Tables) (past : List Stamped) : Type 0 where
@@ -55,6 +64,8 @@ pub record Holds (t : Tables) (past : List Stamped) : Type 0 where
   pub starts : t.starts ≡ in_64_bits (start_count past)
   pub names : t.names.items ≡ user_names past
   pub bots : t.bots.items ≡ map (λ p. p.bot) (people past)
+  pub preferences : (u : UserId) → preferred_in t.preferences.items u.0 ≡ preferred_by past u
+  pub preferences_long : length t.preferences.items ≡ length (people past)
   pub members : (g : GroupId) (u : UserId) → has_in t.members.items g.0 u ≡ is_member past g u
   pub member_sets : AreUserSets (length (groups past)) (length (people past)) t.members.items
   pub groups : t.groups.items ≡ group_names past
@@ -65,6 +76,7 @@ pub record Holds (t : Tables) (past : List Stamped) : Type 0 where
   pub waiting : t.waiting.items ≡ map notice_kept (waiting past)
   pub deals : t.deals.items ≡ deals past
   pub outbox : t.outbox.items ≡ outbox past
+  pub off : t.off ≡ in_64_bits (owed_with past (Cancelled SwitchedOff))
 
 -- the tables stand for a list of events: they hold what its lawful events leave
 abbrev pub StandsFor : Tables → List Stamped → Type 0

@@ -6,6 +6,7 @@ ghost use Rattle.book_tables.specs.Applied.{IsApplied, HoldTheSame};
 ghost use Rattle.book_tables.specs.Rooms.{HasRoom, HasRoomFor};
 ghost use Rattle.book_tables.specs.Prepared.{IsPreparedFor};
 
+use crate::preferences::{Preferences, change_preference, reserve_preference};
 use crate::prepared::{Effect, Prepared};
 use crate::sets::{change_set, reserve_in_set};
 use crate::tables::Tables;
@@ -25,6 +26,7 @@ impl Tables {
             Effect::User { .. } => {
                 self.names.reserve(1)?;
                 self.bots.reserve(1)?;
+                self.preferences.reserve(1)?;
                 Ok(())
             }
             Effect::Group { .. } => {
@@ -42,6 +44,9 @@ impl Tables {
             }
             Effect::Subscription { channel, on, .. } => {
                 reserve_in_set(&mut self.subscribers, channel.0, *on)
+            }
+            Effect::Preference { user, change } => {
+                reserve_preference(&mut self.preferences, user.0, change)
             }
             Effect::Message { waiting, .. } => {
                 self.messages.reserve(1)?;
@@ -67,8 +72,10 @@ impl Tables {
                 return;
             }
             Effect::User { user, bot } => {
+                let preferences = Preferences::new(self.alloc);
                 self.names.push_reserved(user);
                 self.bots.push_reserved(bot);
+                self.preferences.push_reserved(preferences);
                 return;
             }
             Effect::Group { group, members } => {
@@ -90,6 +97,10 @@ impl Tables {
                 change_set(&mut self.subscribers, channel.0, user, on);
                 return;
             }
+            Effect::Preference { user, change } => {
+                change_preference(&mut self.preferences, user.0, change);
+                return;
+            }
             Effect::Message {
                 message,
                 mut waiting,
@@ -100,9 +111,14 @@ impl Tables {
                 self.waiting.append(&mut waiting).unwrap();
                 return;
             }
-            Effect::Mailed { user, mut entries } => {
+            Effect::Mailed {
+                user,
+                mut entries,
+                off,
+            } => {
                 self.waiting.retain(|notice| !notice.is_mail_to(user));
                 self.outbox.append(&mut entries).unwrap();
+                self.off = self.off.saturating_add(off);
                 return;
             }
         }

@@ -22,7 +22,7 @@ impl Tables {
             handed: entries,
             read: 0,
             deleted: 0,
-            off: 0,
+            off: self.off,
             live: 0,
             entries,
             waiting: 0,

@@ -1,15 +1,20 @@
 //! The entries of a mail turn.
-ghost use Rattle.std.specs.Prelude.{◌≡◌, List, length, filter, IfOk};
+ghost use Rattle.std.specs.Prelude.{◌≡◌, List, length, map, filter, IfOk};
 ghost use Rattle.chat_model.specs.declared.event.Stamped.{Stamped};
 ghost use Rattle.notice_ledger.specs.Past.Owed.{Notice};
-ghost use Rattle.notice_ledger.specs.Past.Outbox.{mail_entry, mail_entries};
+ghost use Rattle.chat_model.specs.declared.trigger.Way.{Way};
+ghost use Rattle.notice_ledger.specs.Past.Owed.{switch_on};
+ghost use Rattle.notice_ledger.specs.Past.Due.{batch_rows as batch_rows_of};
+ghost use Rattle.notice_ledger.specs.Past.Outbox.{by_message, conversation_of, mail_entry, mail_entries};
 ghost use Rattle.notice_ledger.specs.Due.{batch_rows};
-ghost use Rattle.book_tables.specs.Tables.{is_mail_to};
+ghost use Rattle.book_tables.specs.Tables.{is_mail_to, switched_at};
 
 use crate::tables::{Message, Tables, Waiting, item_at};
 use chat_model::{
     Conversation, Entry, GroupId, GroupName, Item, List, Moment, OutOfMemory, Text, UserId,
+    ascending_users,
 };
+use notice_ledger::Destination;
 
 /// How many mail notices of the user there are.
 fn count_mails(waiting: &[Waiting], user: UserId) -> usize
@@ -36,6 +41,27 @@ impl Tables {
         }
     }
 
+    /// The conversation of a message to this destination.
+    fn conversation(&self, sender: UserId, to: &Destination) -> Result<Conversation, OutOfMemory>
+        ensures { IfOk result (λ made. (past : List Stamped) → Holds self.now past → made ≡ conversation_of past sender to.now) }
+    {
+        match to {
+            Destination::Channel { channel, topic } => Ok(Conversation::Channel {
+                channel: *channel,
+                name: Text::from_str(self.alloc, self.channel_name(*channel))?,
+                topic: topic.copy()?,
+            }),
+            Destination::Direct { to } => {
+                let mut users = to.copy()?;
+                users.push(sender)?;
+                Ok(Conversation::Direct {
+                    users: ascending_users(users),
+                    sender,
+                })
+            }
+        }
+    }
+
     fn mail_entry(
         &self,
         at: Moment,
@@ -58,18 +84,14 @@ impl Tables {
             user: notice.user,
             name: Text::from_str(alloc, self.name(notice.user))?,
             at,
-            conversation: Conversation::Channel {
-                channel: message.channel,
-                name: Text::from_str(alloc, self.channel_name(message.channel))?,
-                topic: message.topic.copy()?,
-            },
+            conversation: self.conversation(message.sender, &message.to)?,
             items,
         })
     }
 
-    /// The entries of the user's mail turn at a stamp, each message one of its own.
-    pub(crate) fn mail_entries(&self, at: Moment, user: UserId) -> Result<Vec<Entry>, OutOfMemory>
-        ensures { IfOk result (λ entries. (past : List Stamped) → Holds self.now past → entries.items ≡ mail_entries past at user) }
+    /// The entries of the user's mail notices that wait, each message one of its own.
+    fn waiting_entries(&self, at: Moment, user: UserId) -> Result<Vec<Entry>, OutOfMemory>
+        ensures { IfOk result (λ entries. (past : List Stamped) → Holds self.now past → entries.items ≡ map (mail_entry past at) (by_message (batch_rows_of past user))) }
     {
         let mut entries = Vec::new(self.alloc);
         for notice in &self.waiting {
@@ -80,6 +102,35 @@ impl Tables {
             }
         }
         Ok(entries)
+    }
+
+    /// Whether the user's switch for mails is on.
+    fn is_switch_on(&self, user: UserId) -> bool
+        ensures { (past : List Stamped) → Holds self.now past → result ≡ switch_on past user Way.Mail }
+    {
+        self.settings(user).mail_mentions
+    }
+
+    /// The entries of the user's mail turn at a stamp: none where the switch is off.
+    pub(crate) fn mail_entries(&self, at: Moment, user: UserId) -> Result<Vec<Entry>, OutOfMemory>
+        ensures { IfOk result (λ entries. (past : List Stamped) → Holds self.now past → entries.items ≡ mail_entries past at user) }
+    {
+        if !self.is_switch_on(user) {
+            return Ok(Vec::new(self.alloc));
+        }
+        let entries = self.waiting_entries(at, user)?;
+        Ok(entries)
+    }
+
+    /// How many notices the user's mail turn switches off.
+    pub(crate) fn switched_off(&self, user: UserId) -> usize
+        ensures { (past : List Stamped) → Holds self.now past → result ≡ switched_at past user }
+    {
+        if self.is_switch_on(user) {
+            0
+        } else {
+            count_mails(&self.waiting, user)
+        }
     }
 
     /// How many batch rows the user has.

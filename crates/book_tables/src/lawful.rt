@@ -1,34 +1,12 @@
 //! Whether an event is lawful after the journal.
 ghost use Rattle.std.specs.Prelude.{◌≡◌, List};
 ghost use Rattle.chat_model.specs.declared.event.Stamped.{Stamped};
-ghost use Rattle.notice_ledger.specs.InOrder.{is_ascending, is_in_order};
 ghost use Rattle.notice_ledger.specs.Lawful.{lawful, is_lawful_after};
 ghost use Rattle.notice_ledger.specs.Past.Lawful.{may_stand};
 
 use crate::tables::Tables;
-use chat_model::{Event, Moment, Request, Stamped, UserId};
-
-/// Whether each user's number is below that of the next.
-fn is_ascending(users: &[UserId]) -> bool
-    ensures { result ≡ is_ascending users.now }
-{
-    for at in 1..users.len() {
-        if users[at].0 <= users[at - 1].0 {
-            return false;
-        }
-    }
-    true
-}
-
-/// Whether the lists of the request ascend, each item once.
-fn is_in_order(request: &Request) -> bool
-    ensures { result ≡ is_in_order request.now }
-{
-    match request {
-        Request::AddGroup { members, .. } => is_ascending(members.as_slice()),
-        _ => true,
-    }
-}
+use chat_model::{Event, Moment, Stamped, UserId};
+use notice_ledger::is_in_order;
 
 impl Tables {
     ghost use Rattle.book_tables.specs.Tables.{StandsFor};

@@ -11,13 +11,16 @@ mod audit;
 mod deals;
 mod due;
 mod entries;
+mod facts;
 mod lawful;
 mod notices;
+mod preferences;
 mod prepared;
 mod refusal;
 mod rows;
 mod sets;
 mod tables;
+mod topic_key;
 mod user_set;
 
 pub use prepared::Prepared;

@@ -1,32 +1,65 @@
 //! Whom a message notifies, and by which group.
-ghost use Rattle.std.specs.Prelude.{◌≡◌, ◌&&◌, not, ℕ, List, Some, None, length, map, filter, IfOk, if◌then◌else◌};
+ghost use Rattle.std.specs.Prelude.{◌≡◌, ◌++◌, true, ℕ, List, None, map, filter, option_map, option_to_list, IfOk, OnOk, if◌then◌else◌};
 ghost use Rattle.std.specs.Option.{option_map_or};
 ghost use Rattle.std.specs.List.{list_any, reduce};
 ghost use Rattle.chat_model.specs.declared.event.Stamped.{Stamped};
-ghost use Rattle.chat_model.specs.declared.trigger.Way.{Way};
-ghost use Rattle.chat_model.specs.declared.trigger.Trigger.TheVariants.{Mention};
-ghost use Rattle.notice_ledger.specs.Past.Values.{SentMessage, is_one_of};
+ghost use Rattle.chat_model.specs.Triggers.{trigger_of};
+ghost use Rattle.notice_ledger.specs.InOrder.{is_ascending};
+ghost use Rattle.notice_ledger.specs.Past.Values.{is_one_of};
+ghost use Rattle.notice_ledger.specs.Past.Triggers.{mentions_of, is_named, is_mention};
 
+use crate::facts::{Gathered, set_of};
 use crate::sets::{is_in_one, is_in_set, size_of_set};
 use crate::tables::{Message, Tables, Waiting, item_at};
+use crate::user_set::UserSet;
 use chat_model::{
-    DealNo, GroupId, Mentions, MessageId, Moment, OutOfMemory, Text, Trigger, UserId, Way,
+    ChannelId, DealNo, Facts, GroupId, List as UserList, Mentions, MessageId, Moment, OutOfMemory,
+    Text, Trigger, UserId, Way,
 };
 use mention_scan::{resolve, scan};
+use notice_ledger::Destination;
+use trigger_rules::trigger;
 
-/// Whether the user is among these.
-fn is_among(users: &[UserId], user: UserId) -> bool
-    ensures { result ≡ is_one_of users.now user }
+/// Whether the trigger is a mention.
+fn is_mention(trigger: Trigger) -> bool
+    ensures { result ≡ is_mention trigger }
 {
-    users.iter().any(|other| other.0 == user.0)
+    matches!(trigger, Trigger::Mention)
+}
+
+/// Whether the user is among these, which ascend.
+fn is_among(users: &[UserId], user: UserId) -> bool
+    ensures { is_ascending users.now ≡ true → result ≡ is_one_of users.now user }
+{
+    users.binary_search(&user).is_ok()
+}
+
+/// Whether the user is mentioned by name.
+fn is_named(mentioned: &Mentions, user: UserId) -> bool
+    ensures { (past : List Stamped) (text : List ℕ) → mentioned.now ≡ mentions_of past text → result ≡ is_named past text user }
+{
+    is_among(mentioned.users.as_slice(), user)
+}
+
+/// Adds the notice, if there is one.
+fn push_some(owed: &mut Vec<Waiting>, notice: Option<Waiting>) -> Result<(), OutOfMemory>
+    ensures { OnOk result (owed.new.items ≡ owed.old.items ++ option_to_list notice) }
+{
+    if let Some(notice) = notice {
+        owed.push(notice)?;
+    }
+    Ok(())
 }
 
 impl Tables {
     ghost use Rattle.notice_ledger.specs.Past.Journal.{occurrence};
     ghost use Rattle.notice_ledger.specs.Past.Values.{is_bot, is_member, member_count};
-    ghost use Rattle.notice_ledger.specs.Past.Triggers.{is_recipient, mentions_of, is_mentioned, smaller, came_by, trigger};
-    ghost use Rattle.notice_ledger.specs.Past.Owed.{owed_by};
-    ghost use Rattle.book_tables.specs.Tables.{Holds, message_kept, notice_kept, send_of, next_notice};
+    ghost use Rattle.notice_ledger.specs.Past.Triggers.{goes_to, is_mentioned, smaller, smallest_named, came_by};
+    ghost use Rattle.notice_ledger.specs.Past.Triggers.{trigger as trigger_at};
+    ghost use Rattle.notice_ledger.specs.Past.Owed.{notice_of, owed_by};
+    ghost use Rattle.notice_ledger.specs.declared.destination.Destination.TheVariants.{Channel, Direct};
+    ghost use Rattle.book_tables.specs.Tables.{Holds, notice_kept, send_of, sent_after, owed_user};
+    ghost use Rattle.book_tables.specs.Gathered.{IsGathered, owed_there};
 
     pub(crate) fn is_bot(&self, user: UserId) -> bool
         ensures { (past : List Stamped) → Holds self.now past → result ≡ is_bot past user }
@@ -57,7 +90,7 @@ impl Tables {
     }
 
     /// What the text mentions.
-    fn mentions(&self, text: &Text) -> Result<Mentions, OutOfMemory>
+    pub(crate) fn mentions(&self, text: &Text) -> Result<Mentions, OutOfMemory>
         ensures { IfOk result (λ mentioned. (past : List Stamped) → Holds self.now past → mentioned ≡ mentions_of past text.now) }
     {
         let alloc = self.alloc;
@@ -72,28 +105,10 @@ impl Tables {
     }
 
     /// Whether the user is mentioned, by name or by a group of the user.
-    fn is_mentioned(&self, mentioned: &Mentions, user: UserId) -> bool
+    pub(crate) fn is_mentioned(&self, mentioned: &Mentions, user: UserId) -> bool
         ensures { (past : List Stamped) (text : List ℕ) → Holds self.now past → mentioned.now ≡ mentions_of past text → result ≡ is_mentioned past text user }
     {
-        is_among(mentioned.users.as_slice(), user)
-            || self.is_in_some(mentioned.groups.as_slice(), user)
-    }
-
-    /// Whether the user is a recipient of the message, and no bot.
-    fn may_receive(&self, message: &Message, user: UserId) -> bool
-        ensures { (m : SentMessage) → Holds self.now m.past → message.now ≡ message_kept m → result ≡ (is_recipient m user && not (is_bot m.past user)) }
-    {
-        is_in_set(&self.subscribers, message.channel.0, user)
-            && user.0 != message.sender.0
-            && !self.is_bot(user)
-    }
-
-    /// Whether a message that mentions these notifies the user. Who is mentioned is asked first, since few are.
-    fn notifies(&self, message: &Message, mentioned: &Mentions, user: UserId) -> bool
-        ensures { (m : SentMessage) (way : Way) → Holds self.now m.past → message.now ≡ message_kept m → mentioned.now ≡ mentions_of m.past m.text
-            → trigger m user way ≡ (if result then Some Mention else None) }
-    {
-        self.is_mentioned(mentioned, user) && self.may_receive(message, user)
+        is_named(mentioned, user) || self.is_in_some(mentioned.groups.as_slice(), user)
     }
 
     /// Of two groups the one with fewer members, and at a tie the first.
@@ -120,60 +135,162 @@ impl Tables {
     }
 
     /// The group by which a mention comes to the user, where the user is not mentioned by name.
-    fn via(&self, mentioned: &Mentions, user: UserId) -> Option<GroupId>
-        ensures { (m : SentMessage) → Holds self.now m.past → mentioned.now ≡ mentions_of m.past m.text → result ≡ came_by m user }
+    fn mention_via(&self, mentioned: &Mentions, user: UserId) -> Option<GroupId>
+        ensures { (past : List Stamped) (text : List ℕ) → Holds self.now past → mentioned.now ≡ mentions_of past text → result ≡ (if is_named past text user then None else smallest_named past text user) }
     {
-        if is_among(mentioned.users.as_slice(), user) {
+        if is_named(mentioned, user) {
             return None;
         }
         self.smallest(mentioned.groups.as_slice(), user)
     }
 
-    /// A notice of the next message, ready at this stamp.
-    fn notice(&self, at: Moment, via: Option<GroupId>, user: UserId, way: Way) -> Waiting
-        ensures { result ≡ next_notice (length self.now.messages.items) at via user way }
+    /// The group by which a notice of this trigger comes to the user.
+    fn via(&self, mentioned: &Mentions, user: UserId, trigger: Trigger) -> Option<GroupId>
+        ensures { (past : List Stamped) (text : List ℕ) → Holds self.now past → mentioned.now ≡ mentions_of past text → result ≡ came_by past text user trigger }
     {
-        Waiting {
-            user,
-            message: MessageId(self.messages.len() as u64 + 1),
-            way,
-            trigger: Trigger::Mention,
-            via,
-            deal: DealNo(self.messages.len() as u64),
-            ready: at,
+        if is_mention(trigger) {
+            self.mention_via(mentioned, user)
+        } else {
+            None
         }
     }
 
-    /// The notices that the next message, which mentions these, owes: by user, mail before push.
+    /// The notice of the next message to the user by the way, ready at this stamp, if the facts trigger one.
+    fn notice(
+        &self,
+        at: Moment,
+        mentioned: &Mentions,
+        facts: &Facts,
+        user: UserId,
+        way: Way,
+    ) -> Option<Waiting>
+        ensures { (past : List Stamped) (message : Message) → Holds self.now past → mentioned.now ≡ mentions_of past message.text → trigger_of facts.now way ≡ trigger_at past (sent_after past message) message.text user way
+            → result ≡ option_map notice_kept (notice_of (occurrence past (send_of at message)) (sent_after past message) user way) }
+    {
+        match trigger(facts, way) {
+            Some(trigger) => Some(Waiting {
+                user,
+                message: MessageId(self.messages.len() as u64 + 1),
+                way,
+                trigger,
+                via: self.via(mentioned, user, trigger),
+                deal: DealNo(self.messages.len() as u64),
+                ready: at,
+            }),
+            None => None,
+        }
+    }
+
+    /// Adds the notices that the next message owes a recipient, mail before push.
+    fn add_both(
+        &self,
+        at: Moment,
+        message: &Message,
+        gathered: &Gathered,
+        user: UserId,
+        owed: &mut Vec<Waiting>,
+    ) -> Result<(), OutOfMemory>
+        ensures { (past : List Stamped) → Holds self.now past → IsGathered past message.now gathered.now → goes_to past message.now.to user ≡ true
+            → OnOk result (owed.new.items ≡ owed.old.items ++ owed_user past at message.now user) }
+    {
+        let facts = self.facts(message, gathered, user);
+        let mail = self.notice(at, &gathered.mentioned, &facts, user, Way::Mail);
+        let push = self.notice(at, &gathered.mentioned, &facts, user, Way::Push);
+        push_some(owed, mail)?;
+        push_some(owed, push)?;
+        Ok(())
+    }
+
+    /// Adds the notices that the next message owes one of its addressees. The sender isn't a recipient, and who isn't
+    /// there is owed nothing.
+    fn add_owed(
+        &self,
+        at: Moment,
+        message: &Message,
+        gathered: &Gathered,
+        user: UserId,
+        owed: &mut Vec<Waiting>,
+    ) -> Result<(), OutOfMemory>
+        ensures { (past : List Stamped) → Holds self.now past → IsGathered past message.now gathered.now → goes_to past message.now.to user ≡ true
+            → OnOk result (owed.new.items ≡ owed.old.items ++ owed_there past at message.now user) }
+    {
+        if self.is_user(user) {
+            self.add_both(at, message, gathered, user, owed)
+        } else {
+            Ok(())
+        }
+    }
+
+    /// The notices that the next message owes its addressees: by user, mail before push.
     fn owed_to(
         &self,
         at: Moment,
         message: &Message,
-        mentioned: &Mentions,
+        gathered: &Gathered,
+        addressees: &UserSet,
     ) -> Result<Vec<Waiting>, OutOfMemory>
-        ensures { IfOk result (λ owed. (past : List Stamped) → Holds self.now past → mentioned.now ≡ mentions_of past message.now.text
+        ensures { IfOk result (λ owed. (past : List Stamped) → Holds self.now past → IsGathered past message.now gathered.now
+            → ((u : UserId) → is_one_of addressees.now.users.items u ≡ goes_to past message.now.to u)
             → owed.items ≡ map notice_kept (owed_by (occurrence past (send_of at message.now)))) }
     {
         let mut owed = Vec::new(self.alloc);
-        for name in &self.names {
-            let user = name.id;
-            if self.notifies(message, mentioned, user) {
-                let via = self.via(mentioned, user);
-                owed.push(self.notice(at, via, user, Way::Mail))?;
-                owed.push(self.notice(at, via, user, Way::Push))?;
-            }
+        for user in &addressees.users {
+            self.add_owed(at, message, gathered, *user, &mut owed)?;
         }
         Ok(owed)
     }
 
-    /// The notices that the next message owes. One that mentions nobody owes none, whoever is there.
+    /// The notices that the next message owes the subscribers of its channel.
+    fn owed_in_channel(
+        &self,
+        at: Moment,
+        message: &Message,
+        gathered: &Gathered,
+        channel: ChannelId,
+    ) -> Result<Vec<Waiting>, OutOfMemory>
+        ensures { IfOk result (λ owed. (past : List Stamped) (topic : List ℕ) → Holds self.now past → IsGathered past message.now gathered.now → message.now.to ≡ Channel channel topic
+            → owed.items ≡ map notice_kept (owed_by (occurrence past (send_of at message.now)))) }
+    {
+        match item_at(&self.subscribers, channel.0) {
+            Some(subscribers) => {
+                let owed = self.owed_to(at, message, gathered, subscribers)?;
+                Ok(owed)
+            }
+            None => Ok(Vec::new(self.alloc)),
+        }
+    }
+
+    /// The notices that the next message, which is direct, owes the users whom it names.
+    fn owed_directly(
+        &self,
+        at: Moment,
+        message: &Message,
+        gathered: &Gathered,
+        to: &UserList<UserId>,
+    ) -> Result<Vec<Waiting>, OutOfMemory>
+        ensures { IfOk result (λ owed. (past : List Stamped) → Holds self.now past → IsGathered past message.now gathered.now → message.now.to ≡ Direct to.now
+            → owed.items ≡ map notice_kept (owed_by (occurrence past (send_of at message.now)))) }
+    {
+        let users = to.copy()?;
+        let named = set_of(users.into_vec());
+        let owed = self.owed_to(at, message, gathered, &named)?;
+        Ok(owed)
+    }
+
+    /// The notices that the next message owes. Only those to whom it goes are looked at.
     pub(crate) fn owed(&self, at: Moment, message: &Message) -> Result<Vec<Waiting>, OutOfMemory>
         ensures { IfOk result (λ owed. (past : List Stamped) → Holds self.now past → owed.items ≡ map notice_kept (owed_by (occurrence past (send_of at message.now)))) }
     {
-        let mentioned = self.mentions(&message.text)?;
-        if mentioned.users.is_empty() && mentioned.groups.is_empty() {
-            return Ok(Vec::new(self.alloc));
+        let gathered = self.gather(message)?;
+        match &message.to {
+            Destination::Channel { channel, .. } => {
+                let owed = self.owed_in_channel(at, message, &gathered, *channel)?;
+                Ok(owed)
+            }
+            Destination::Direct { to } => {
+                let named = self.owed_directly(at, message, &gathered, to)?;
+                Ok(named)
+            }
         }
-        self.owed_to(at, message, &mentioned)
     }
 }

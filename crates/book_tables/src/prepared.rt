@@ -1,7 +1,9 @@
 //! What an event will change, made ready before it is committed.
-ghost use Rattle.std.specs.Prelude.{◌≡◌, ◌+◌, ◌^◌, ◌<◌, ◌++◌, ◌∷◌, [], true, List as Items, map, filter, length, IfOk, OnOk};
+ghost use Rattle.std.specs.Prelude.{◌≡◌, ◌+◌, ◌^◌, ◌<◌, ◌++◌, ◌∷◌, [], true, List as Items, map, filter, length, option_map, option_to_list, IfOk, OnOk};
 ghost use Rattle.chat_model.specs.declared.event.Stamped.{Stamped};
+ghost use Rattle.chat_model.specs.declared.row.Row.TheVariants.{User};
 ghost use Rattle.chat_model.specs.declared.row.RowChange.TheVariants.{Put, Remove};
+ghost use Rattle.notice_ledger.specs.Past.Values.{person};
 ghost use Rattle.chat_model.specs.Rows.{changed_all};
 ghost use Rattle.notice_ledger.specs.InOrder.{is_ascending, is_in_order};
 ghost use Rattle.notice_ledger.specs.Lawful.{is_lawful_after};
@@ -10,12 +12,15 @@ ghost use Rattle.notice_ledger.specs.Past.Rows.{outbox_rows_from};
 ghost use Rattle.book_tables.specs.Tables.{is_mail_to};
 ghost use Rattle.book_tables.specs.Prepared.{notice_row, key_of_notice, changes_of};
 
+use crate::preferences::Preference;
 use crate::tables::{Message, Tables, Waiting};
 use crate::user_set::UserSet;
 use chat_model::{
     ChannelId, Deal, Entry, EntryNo, Event, GroupId, GroupName, List, MessageId, Moment,
-    OutOfMemory, Request, Row, RowChange, RowKey, Settings, Stage, Stamped, Text, UserId, UserName,
+    OutOfMemory, Policy, Request, Row, RowChange, RowKey, SettingChange, Settings, Stage, Stamped,
+    Text, UserId, UserName,
 };
+use notice_ledger::Destination;
 use std::alloc::Global;
 
 /// What an event will change: the kept rows, and the tables.
@@ -51,6 +56,10 @@ pub enum Effect {
         user: UserId,
         on: bool,
     },
+    Preference {
+        user: UserId,
+        change: Preference,
+    },
     Message {
         message: Message,
         waiting: Vec<Waiting>,
@@ -59,6 +68,8 @@ pub enum Effect {
     Mailed {
         user: UserId,
         entries: Vec<Entry>,
+        /// How many notices were switched off.
+        off: u64,
     },
 }
 
@@ -133,7 +144,7 @@ pub(crate) fn put_entries(
 
 impl Tables {
     ghost use Rattle.chat_model.specs.declared.event.Event.TheVariants.{Asked, MailTurn};
-    ghost use Rattle.chat_model.specs.declared.request.Request.TheVariants.{AddUser, AddGroup, Send};
+    ghost use Rattle.chat_model.specs.declared.request.Request.TheVariants.{AddUser, AddGroup, Set, SetPolicy, Send, Direct};
     ghost use Rattle.book_tables.specs.Tables.{Holds, StandsFor, send_of};
     ghost use Rattle.book_tables.specs.Prepared.{Follows, IsPreparedFor, MayFollow};
 
@@ -180,6 +191,64 @@ impl Tables {
         })
     }
 
+    /// The row of the user with these settings, if the user is there.
+    fn user_changes(&self, user: UserId, settings: Settings) -> Result<Vec<RowChange>, OutOfMemory>
+        ensures { IfOk result (λ changes. (past : Items Stamped) → Holds self.now past
+            → changes.items ≡ map Put (option_to_list (option_map (λ p. User user p.name p.bot settings) (person past user)))) }
+    {
+        if !self.is_user(user) {
+            return Ok(Vec::new(self.alloc));
+        }
+        let mut changes = Vec::new(self.alloc);
+        changes.push(RowChange::Put(Row::User {
+            id: user,
+            name: Text::from_str(self.alloc, self.name(user))?,
+            bot: self.is_bot(user),
+            settings,
+        }))?;
+        Ok(changes)
+    }
+
+    /// A change of a switch, with the user's row.
+    fn prepare_setting(
+        &self,
+        at: Moment,
+        user: UserId,
+        change: SettingChange,
+    ) -> Result<Prepared, OutOfMemory>
+        ensures { IfOk result (λ p. (past : Items Stamped) → Holds self.now past → Follows past (record { at = at; event = Asked (Set user change) }) p) }
+    {
+        let settings = self.settings(user).changed(change);
+        let changes = self.user_changes(user, settings)?;
+        let effect = Effect::Preference {
+            user,
+            change: Preference::Setting(change),
+        };
+        Ok(Prepared {
+            at,
+            changes,
+            effect,
+        })
+    }
+
+    fn prepare_policy(
+        &self,
+        at: Moment,
+        user: UserId,
+        channel: ChannelId,
+        topic: &Text,
+        policy: Policy,
+    ) -> Result<Prepared, OutOfMemory>
+        ensures { IfOk result (λ p. (past : Items Stamped) → Holds self.now past → Follows past (record { at = at; event = Asked (SetPolicy user channel topic.now policy) }) p) }
+    {
+        let change = Preference::Policy {
+            channel,
+            topic: topic.copy()?,
+            policy,
+        };
+        Ok(self.without_rows(at, Effect::Preference { user, change }))
+    }
+
     fn prepare_send(&self, at: Moment, message: Message) -> Result<Prepared, OutOfMemory>
         ensures { IfOk result (λ p. (past : Items Stamped) → Holds self.now past → Follows past (send_of at message) p) }
     {
@@ -204,6 +273,39 @@ impl Tables {
         })
     }
 
+    fn prepare_channel_message(
+        &self,
+        at: Moment,
+        sender: UserId,
+        channel: ChannelId,
+        topic: &Text,
+        text: &Text,
+    ) -> Result<Prepared, OutOfMemory>
+        ensures { IfOk result (λ p. (past : Items Stamped) → Holds self.now past → Follows past (record { at = at; event = Asked (Send sender channel topic.now text.now) }) p) }
+    {
+        let topic = topic.copy()?;
+        let text = text.copy()?;
+        let to = Destination::Channel { channel, topic };
+        let prepared = self.prepare_send(at, Message { sender, to, text })?;
+        Ok(prepared)
+    }
+
+    fn prepare_direct_message(
+        &self,
+        at: Moment,
+        sender: UserId,
+        to: &List<UserId>,
+        text: &Text,
+    ) -> Result<Prepared, OutOfMemory>
+        ensures { IfOk result (λ p. (past : Items Stamped) → Holds self.now past → Follows past (record { at = at; event = Asked (Direct sender to.now text.now) }) p) }
+    {
+        let to = to.copy()?;
+        let text = text.copy()?;
+        let to = Destination::Direct { to };
+        let prepared = self.prepare_send(at, Message { sender, to, text })?;
+        Ok(prepared)
+    }
+
     fn prepare_mails(&self, at: Moment, user: UserId) -> Result<Prepared, OutOfMemory>
         ensures { IfOk result (λ p. (past : Items Stamped) → Holds self.now past → Follows past (record { at = at; event = MailTurn user }) p) }
     {
@@ -214,7 +316,11 @@ impl Tables {
         Ok(Prepared {
             at,
             changes,
-            effect: Effect::Mailed { user, entries },
+            effect: Effect::Mailed {
+                user,
+                entries,
+                off: self.switched_off(user) as u64,
+            },
         })
     }
 
@@ -256,19 +362,47 @@ impl Tables {
                 };
                 Ok(self.without_rows(at, effect))
             }
+            Request::Set { user, change } => self.prepare_setting(at, *user, *change),
+            Request::SetChannel {
+                user,
+                channel,
+                change,
+            } => {
+                let change = Preference::Specific {
+                    channel: *channel,
+                    change: *change,
+                };
+                let effect = Effect::Preference {
+                    user: *user,
+                    change,
+                };
+                Ok(self.without_rows(at, effect))
+            }
+            Request::SetPolicy {
+                user,
+                channel,
+                topic,
+                policy,
+            } => self.prepare_policy(at, *user, *channel, topic, *policy),
+            Request::Mute { user, other, on } => {
+                let change = Preference::Mute {
+                    other: *other,
+                    on: *on,
+                };
+                let effect = Effect::Preference {
+                    user: *user,
+                    change,
+                };
+                Ok(self.without_rows(at, effect))
+            }
             Request::Send {
                 sender,
                 channel,
                 topic,
                 text,
-            } => {
-                let message = Message {
-                    sender: *sender,
-                    channel: *channel,
-                    topic: topic.copy()?,
-                    text: text.copy()?,
-                };
-                self.prepare_send(at, message)
+            } => self.prepare_channel_message(at, *sender, *channel, topic, text),
+            Request::Direct { sender, to, text } => {
+                self.prepare_direct_message(at, *sender, to, text)
             }
         }
     }

@@ -1,9 +1,12 @@
 //! Why a request is refused: its rules stand in the order of the refusals' numbers.
-ghost use Rattle.std.specs.Prelude.{◌≡◌, Bool, List, map, is_some};
+ghost use Rattle.std.specs.Prelude.{◌≡◌, ◌&&◌, Bool, List, map, is_some};
 ghost use Rattle.std.specs.Str.{str_eq_ignore_ascii_case};
 ghost use Rattle.notice_ledger.specs.Past.Values.{numbered};
 ghost use Rattle.std.specs.List.{list_all, list_any};
 ghost use Rattle.chat_model.specs.declared.event.Stamped.{Stamped};
+ghost use Rattle.chat_model.specs.declared.policy.Policy.{Policy};
+ghost use Rattle.chat_model.specs.declared.policy.SpecificChange.{SpecificChange};
+ghost use Rattle.chat_model.specs.declared.settings.SettingChange.{SettingChange};
 ghost use Rattle.notice_ledger.specs.Past.Refusals.{first_broken, is_taken};
 ghost use Rattle.notice_ledger.specs.Limits.{longest_text, longest_topic, longest_name, most_items};
 ghost use Rattle.book_tables.specs.Rules.{tested_rule};
@@ -160,6 +163,62 @@ impl Tables {
         ])
     }
 
+    /// Whether there are both users.
+    fn are_both(&self, user: UserId, other: UserId) -> bool
+        ensures { (past : List Stamped) → Holds self.now past → result ≡ (is_user past user && is_user past other) }
+    {
+        self.is_user(user) && self.is_user(other)
+    }
+
+    /// Whether there are the sender and all these users.
+    fn are_there_with(&self, sender: UserId, users: &[UserId]) -> bool
+        ensures { (past : List Stamped) → Holds self.now past → result ≡ (is_user past sender && list_all (is_user past) users.now) }
+    {
+        self.is_user(sender) && self.are_users(users)
+    }
+
+    fn setting_refusal(&self, user: UserId) -> Option<Refusal>
+        ensures { (past : List Stamped) (change : SettingChange) → Holds self.now past → result ≡ behind.refusal past (Request.Set user change) }
+    {
+        first_broken(&[(!self.is_user(user), Refusal::NoUser)])
+    }
+
+    fn specific_refusal(&self, user: UserId, channel: ChannelId) -> Option<Refusal>
+        ensures { (past : List Stamped) (change : SpecificChange) → Holds self.now past → result ≡ behind.refusal past (Request.SetChannel user channel change) }
+    {
+        first_broken(&[
+            (!self.is_user(user), Refusal::NoUser),
+            (!self.is_channel(channel), Refusal::NoChannel),
+        ])
+    }
+
+    fn policy_refusal(&self, user: UserId, channel: ChannelId, topic: &str) -> Option<Refusal>
+        ensures { (past : List Stamped) (policy : Policy) → Holds self.now past → result ≡ behind.refusal past (Request.SetPolicy user channel topic.now policy) }
+    {
+        first_broken(&[
+            (!self.is_user(user), Refusal::NoUser),
+            (!self.is_channel(channel), Refusal::NoChannel),
+            (is_longer_than(topic, LONGEST_TOPIC), Refusal::TopicTooLong),
+        ])
+    }
+
+    fn mute_refusal(&self, user: UserId, other: UserId) -> Option<Refusal>
+        ensures { (past : List Stamped) (on : Bool) → Holds self.now past → result ≡ behind.refusal past (Request.Mute user other on) }
+    {
+        first_broken(&[(!self.are_both(user, other), Refusal::NoUser)])
+    }
+
+    fn direct_refusal(&self, sender: UserId, to: &[UserId], text: &str) -> Option<Refusal>
+        ensures { (past : List Stamped) → Holds self.now past → result ≡ behind.refusal past (Request.Direct sender to.now text.now) }
+    {
+        first_broken(&[
+            (!self.are_there_with(sender, to), Refusal::NoUser),
+            (is_blank(text), Refusal::EmptyText),
+            (is_longer_than(text, LONGEST_TEXT), Refusal::TextTooLong),
+            (to.len() > MOST_ITEMS, TOO_MANY),
+        ])
+    }
+
     fn user_refusal(&self, name: &str) -> Option<Refusal>
         ensures { (past : List Stamped) (bot : Bool) → result ≡ behind.refusal past (Request.AddUser name.now bot) }
     {
@@ -183,12 +242,24 @@ impl Tables {
             Request::Subscribe { user, channel, .. } => {
                 self.subscription_refusal(*user, *channel)
             }
+            Request::Set { user, .. } => self.setting_refusal(*user),
+            Request::SetChannel { user, channel, .. } => self.specific_refusal(*user, *channel),
+            Request::SetPolicy {
+                user,
+                channel,
+                topic,
+                ..
+            } => self.policy_refusal(*user, *channel, topic.as_str()),
+            Request::Mute { user, other, .. } => self.mute_refusal(*user, *other),
             Request::Send {
                 sender,
                 channel,
                 topic,
                 text,
             } => self.send_refusal(*sender, *channel, topic.as_str(), text.as_str()),
+            Request::Direct { sender, to, text } => {
+                self.direct_refusal(*sender, to.as_slice(), text.as_str())
+            }
         }
     }
 }

@@ -8,7 +8,7 @@ ghost use Rattle.notice_ledger.specs.Past.Rows.{user_rows_from, message_rows_fro
 
 use crate::prepared::{put_entries, put_notices};
 use crate::tables::Tables;
-use chat_model::{List, MessageId, OutOfMemory, Row, RowChange, Settings, change_all};
+use chat_model::{List, MessageId, OutOfMemory, Row, RowChange, change_all};
 
 impl Tables {
     ghost use Rattle.book_tables.specs.Tables.{Holds, StandsFor};
@@ -22,7 +22,7 @@ impl Tables {
                 id: name.id,
                 name: name.name.copy()?,
                 bot: self.is_bot(name.id),
-                settings: Settings::default(),
+                settings: self.settings(name.id),
             }))?;
         }
         Ok(())

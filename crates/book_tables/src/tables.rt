@@ -5,19 +5,20 @@ ghost use Rattle.chat_model.specs.declared.event.Stamped.{Stamped};
 ghost use Rattle.notice_ledger.specs.Past.Values.{numbered};
 ghost use Rattle.book_tables.specs.Tables.{is_mail_to};
 
+use crate::preferences::Preferences;
 use crate::user_set::UserSet;
 use chat_model::{
     Answer, ChannelId, Deal, DealNo, Entry, EntryNo, GroupId, GroupName, MessageId, Moment,
     OutOfMemory, Request, Text, Trigger, UserId, UserName, Way,
 };
+use notice_ledger::Destination;
 use std::alloc::Global;
 
 /// A message as it was sent.
 #[derive(Debug, Drop)]
 pub struct Message {
     pub sender: UserId,
-    pub channel: ChannelId,
-    pub topic: Text,
+    pub to: Destination,
     pub text: Text,
 }
 
@@ -50,6 +51,7 @@ pub struct Tables {
     pub(crate) starts: u64,
     pub(crate) names: Vec<UserName>,
     pub(crate) bots: Vec<bool>,
+    pub(crate) preferences: Vec<Preferences>,
     pub(crate) groups: Vec<GroupName>,
     pub(crate) members: Vec<UserSet>,
     pub(crate) channels: Vec<Text>,
@@ -59,6 +61,8 @@ pub struct Tables {
     /// By their numbers, from 0.
     pub(crate) deals: Vec<Deal>,
     pub(crate) outbox: Vec<Entry>,
+    /// How many notices were switched off at their turns, at most 2^64 - 1.
+    pub(crate) off: u64,
 }
 
 /// The item of a number, from 1.
@@ -92,7 +96,7 @@ impl Waiting {
 }
 
 impl Tables {
-    ghost use Rattle.notice_ledger.specs.Past.Values.{is_user, is_channel, is_group, user_name, group_name, channel_name};
+    ghost use Rattle.notice_ledger.specs.Past.Values.{is_user, is_channel, is_group, user_name, group_name, channel_name, messages, deal_count as deal_count_of};
     ghost use Rattle.notice_ledger.specs.Past.Outbox.{named_group};
     ghost use Rattle.notice_ledger.specs.Past.Audit.{in_64_bits};
     ghost use Rattle.notice_ledger.specs.Journal.{last_stamp, deal_count};
@@ -114,6 +118,7 @@ impl Tables {
             starts: 0,
             names: Vec::new(alloc),
             bots: Vec::new(alloc),
+            preferences: Vec::new(alloc),
             groups: Vec::new(alloc),
             members: Vec::new(alloc),
             channels: Vec::new(alloc),
@@ -122,6 +127,7 @@ impl Tables {
             waiting: Vec::new(alloc),
             deals: Vec::new(alloc),
             outbox: Vec::new(alloc),
+            off: 0,
         }
     }
 
@@ -225,6 +231,16 @@ impl Tables {
         })
     }
 
+    /// The answer to the send of the next message.
+    fn sent(&self) -> Answer
+        ensures { (past : List Stamped) → Holds self.now past → result ≡ Answer.Sent (record { 0 = length (messages past) + 1 }) (record { 0 = deal_count_of past }) }
+    {
+        Answer::Sent {
+            message: MessageId(self.messages.len() as u64 + 1),
+            deal: DealNo(self.messages.len() as u64),
+        }
+    }
+
     /// The answer to a request that is not refused.
     pub fn answer(&self, request: &Request) -> Answer
         ensures { (j : List Stamped) → StandsFor self.now j → result ≡ answer_of j request.now }
@@ -237,10 +253,12 @@ impl Tables {
                 Answer::Channel(ChannelId(self.channels.len() as u64 + 1))
             }
             Request::Subscribe { .. } => Answer::Done,
-            Request::Send { .. } => Answer::Sent {
-                message: MessageId(self.messages.len() as u64 + 1),
-                deal: DealNo(self.messages.len() as u64),
-            },
+            Request::Set { .. } => Answer::Done,
+            Request::SetChannel { .. } => Answer::Done,
+            Request::SetPolicy { .. } => Answer::Done,
+            Request::Mute { .. } => Answer::Done,
+            Request::Send { .. } => self.sent(),
+            Request::Direct { .. } => self.sent(),
         }
     }
 }

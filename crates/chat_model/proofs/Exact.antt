@@ -12,7 +12,11 @@ use Rattle.chat_model.specs.declared.settings.Settings.{Settings}
 use Rattle.chat_model.specs.declared.mentions.UserName.{UserName}
 use Rattle.chat_model.specs.declared.mentions.GroupName.{GroupName}
 use Rattle.chat_model.specs.declared.request.Request.{Request}
-use Rattle.chat_model.specs.declared.request.Request.TheVariants.{AddUser, AddGroup, Member, AddChannel, Subscribe, Send}
+use Rattle.chat_model.specs.declared.request.Request.TheVariants.{AddUser, AddGroup, Member, AddChannel, Subscribe, Set, SetChannel, SetPolicy, Mute, Send, Direct}
+use Rattle.chat_model.specs.declared.settings.SettingChange.{SettingChange}
+use Rattle.chat_model.specs.declared.settings.SettingChange.TheVariants.{MailMentions, PushMentions, PushOnline, ChannelMail, ChannelPush, Wildcards, FollowedMail, FollowedPush, FollowedWildcards}
+use Rattle.chat_model.specs.declared.policy.SpecificChange.{SpecificChange}
+use Rattle.chat_model.specs.declared.policy.SpecificChange.TheVariants as specific
 use Rattle.chat_model.specs.declared.event.Event.{Event}
 use Rattle.chat_model.specs.declared.event.Event.TheVariants.{Restart, Asked, MailTurn}
 use Rattle.chat_model.specs.declared.event.Stamped.{Stamped}
@@ -29,6 +33,8 @@ use Rattle.chat_model.specs.declared.row.RowChange.TheVariants.{Put, Remove}
 use Rattle.chat_model.specs.contracts.text.TextPartialEq.TheImpl as text_eq
 use Rattle.chat_model.specs.contracts.ids.UserIdPartialEq.TheImpl as user_eq
 use Rattle.chat_model.specs.contracts.settings.SettingsPartialEq.TheImpl as settings_eq
+use Rattle.chat_model.specs.contracts.settings.SettingChangePartialEq.TheImpl as setting_change_eq
+use Rattle.chat_model.specs.contracts.policy.SpecificChangePartialEq.TheImpl as specific_change_eq
 use Rattle.chat_model.specs.contracts.mentions.UserNamePartialEq.TheImpl as user_name_eq
 use Rattle.chat_model.specs.contracts.mentions.GroupNamePartialEq.TheImpl as group_name_eq
 use Rattle.chat_model.specs.contracts.request.RequestPartialEq.TheImpl as request_eq
@@ -130,12 +136,36 @@ user_name_exact a b = (λ h. grind (arith, common_steps, text_exact), λ h. grin
 pub group_name_exact : (a b : GroupName) → Decides ((group_name_eq.ghosts).eq a b) (a ≡ b)
 group_name_exact a b = (λ h. grind (arith, common_steps, text_exact), λ h. grind (arith, common_steps, text_exact))
 
+setting_change_exact : (a b : SettingChange) → Decides ((setting_change_eq.ghosts).eq a b) (a ≡ b)
+setting_change_exact (MailMentions on) (MailMentions on') = (λ h. grind (arith, common_steps), λ h. grind (arith, common_steps))
+setting_change_exact (PushMentions on) (PushMentions on') = (λ h. grind (arith, common_steps), λ h. grind (arith, common_steps))
+setting_change_exact (PushOnline on) (PushOnline on') = (λ h. grind (arith, common_steps), λ h. grind (arith, common_steps))
+setting_change_exact (ChannelMail on) (ChannelMail on') = (λ h. grind (arith, common_steps), λ h. grind (arith, common_steps))
+setting_change_exact (ChannelPush on) (ChannelPush on') = (λ h. grind (arith, common_steps), λ h. grind (arith, common_steps))
+setting_change_exact (Wildcards on) (Wildcards on') = (λ h. grind (arith, common_steps), λ h. grind (arith, common_steps))
+setting_change_exact (FollowedMail on) (FollowedMail on') = (λ h. grind (arith, common_steps), λ h. grind (arith, common_steps))
+setting_change_exact (FollowedPush on) (FollowedPush on') = (λ h. grind (arith, common_steps), λ h. grind (arith, common_steps))
+setting_change_exact (FollowedWildcards on) (FollowedWildcards on') = (λ h. grind (arith, common_steps), λ h. grind (arith, common_steps))
+setting_change_exact _ _ = (λ h. cc, λ h. cc)
+
+specific_change_exact : (a b : SpecificChange) → Decides ((specific_change_eq.ghosts).eq a b) (a ≡ b)
+specific_change_exact (specific.Muted on) (specific.Muted on') = (λ h. grind (arith, common_steps), λ h. grind (arith, common_steps))
+specific_change_exact (specific.Mail on) (specific.Mail on') = (λ h. grind (arith, common_steps), λ h. grind (arith, common_steps))
+specific_change_exact (specific.Push on) (specific.Push on') = (λ h. grind (arith, common_steps), λ h. grind (arith, common_steps))
+specific_change_exact (specific.Wildcards on) (specific.Wildcards on') = (λ h. grind (arith, common_steps), λ h. grind (arith, common_steps))
+specific_change_exact _ _ = (λ h. cc, λ h. cc)
+
 pub request_exact : (a b : Request) → Decides ((request_eq.ghosts).eq a b) (a ≡ b)
 request_exact (AddUser name bot) (AddUser other bot') = (λ h. grind (arith, common_steps, text_exact), λ h. grind (arith, common_steps, text_exact))
 request_exact (AddGroup name members) (AddGroup other members') = (λ h. grind (arith, common_steps, text_exact, users_exact), λ h. grind (arith, common_steps, text_exact, users_exact))
 request_exact (Member group user on) (Member group' user' on') = (λ h. grind (arith, common_steps), λ h. grind (arith, common_steps))
 request_exact (AddChannel name) (AddChannel other) = (λ h. grind (arith, common_steps, text_exact), λ h. grind (arith, common_steps, text_exact))
 request_exact (Subscribe user channel on) (Subscribe user' channel' on') = (λ h. grind (arith, common_steps), λ h. grind (arith, common_steps))
+request_exact (Set user change) (Set user' change') = (λ h. grind (arith, common_steps, setting_change_exact), λ h. grind (arith, common_steps, setting_change_exact))
+request_exact (SetChannel user channel change) (SetChannel user' channel' change') = (λ h. grind (arith, common_steps, specific_change_exact), λ h. grind (arith, common_steps, specific_change_exact))
+request_exact (SetPolicy user channel topic policy) (SetPolicy user' channel' topic' policy') = (λ h. grind (arith, common_steps, text_exact), λ h. grind (arith, common_steps, text_exact))
+request_exact (Mute user other on) (Mute user' other' on') = (λ h. grind (arith, common_steps), λ h. grind (arith, common_steps))
+request_exact (Direct sender to text) (Direct sender' to' text') = (λ h. grind (arith, common_steps, text_exact, users_exact), λ h. grind (arith, common_steps, text_exact, users_exact))
 request_exact (Send sender channel topic text) (Send sender' channel' topic' text') = (λ h. grind (arith, common_steps, text_exact), λ h. grind (arith, common_steps, text_exact))
 request_exact _ _ = (λ h. cc, λ h. cc)
 

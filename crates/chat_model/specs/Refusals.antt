@@ -1,7 +1,7 @@
 -- The numbers of the refusals.
 use Rattle.std.specs.Prelude.{ℕ}
 use Rattle.chat_model.specs.declared.request.Refusal.{Refusal}
-use Rattle.chat_model.specs.declared.request.Refusal.TheVariants.{NoUser, NoChannel, NoGroup, Exists, NotSubscribed, EmptyText, TextTooLong, TopicTooLong, BadQueue, BadEventId, TooMany, NameTooLong, BadName}
+use Rattle.chat_model.specs.declared.request.Refusal.TheVariants.{NoUser, NoChannel, NoGroup, Exists, NotSubscribed, EmptyText, TextTooLong, TopicTooLong, BadPeriod, BadQueue, BadEventId, TooMany, NameTooLong, BadName}
 
 -- the number of a refusal
 abbrev pub refusal_number : Refusal → ℕ
@@ -13,6 +13,7 @@ refusal_number NotSubscribed = 16
 refusal_number EmptyText = 17
 refusal_number TextTooLong = 18
 refusal_number TopicTooLong = 19
+refusal_number BadPeriod = 20
 refusal_number BadQueue = 21
 refusal_number (BadEventId next) = 22
 refusal_number (TooMany limit) = 23

@@ -1,4 +1,6 @@
 //! What a user wants of a channel and of a topic.
+ghost use Rattle.std.specs.Prelude.{◌≡◌};
+ghost use Rattle.chat_model.specs.Settings.{changed_specific};
 
 /// What a user wants of a topic. After Zulip help center: "Topic notifications".
 #[derive(Clone, Copy, Debug, Default, PartialEq, Eq)]
@@ -21,4 +23,45 @@ pub struct Specific {
     pub mail: Option<bool>,
     pub push: Option<bool>,
     pub wildcards: Option<bool>,
+}
+
+impl Default for Specific {
+    ghost use Rattle.std.specs.Prelude.{◌≡◌};
+    ghost use Rattle.chat_model.specs.Settings.{default_specific};
+
+    ghost is_default = { λ s. s ≡ default_specific };
+
+    fn default() -> Specific {
+        Specific {
+            muted: false,
+            mail: None,
+            push: None,
+            wildcards: None,
+        }
+    }
+}
+
+impl Specific {
+    /// The settings with one of them set.
+    pub fn changed(self, change: SpecificChange) -> Specific
+        ensures { result ≡ changed_specific change self }
+    {
+        let mut specific = self;
+        match change {
+            SpecificChange::Muted(on) => specific.muted = on,
+            SpecificChange::Mail(on) => specific.mail = on,
+            SpecificChange::Push(on) => specific.push = on,
+            SpecificChange::Wildcards(on) => specific.wildcards = on,
+        }
+        specific
+    }
+}
+
+/// A change of one of the settings for a channel.
+#[derive(Clone, Copy, Debug, PartialEq, Eq)]
+pub enum SpecificChange {
+    Muted(bool),
+    Mail(Option<bool>),
+    Push(Option<bool>),
+    Wildcards(Option<bool>),
 }

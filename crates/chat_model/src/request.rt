@@ -2,7 +2,10 @@
 ghost use Rattle.std.specs.Prelude.{◌≡◌, IfOk};
 ghost use Rattle.chat_model.specs.Refusals.{refusal_number};
 
-use crate::{ChannelId, DealNo, GroupId, List, MessageId, OutOfMemory, Same, Text, UserId};
+use crate::{
+    ChannelId, DealNo, GroupId, List, MessageId, OutOfMemory, Policy, Same, SettingChange,
+    SpecificChange, Text, UserId,
+};
 use std::alloc::Global;
 
 /// A change that a client asks for.
@@ -30,10 +33,37 @@ pub enum Request {
         channel: ChannelId,
         on: bool,
     },
+    Set {
+        user: UserId,
+        change: SettingChange,
+    },
+    SetChannel {
+        user: UserId,
+        channel: ChannelId,
+        change: SpecificChange,
+    },
+    SetPolicy {
+        user: UserId,
+        channel: ChannelId,
+        topic: Text,
+        policy: Policy,
+    },
+    /// The user mutes another, or hears the other again.
+    Mute {
+        user: UserId,
+        other: UserId,
+        on: bool,
+    },
     Send {
         sender: UserId,
         channel: ChannelId,
         topic: Text,
+        text: Text,
+    },
+    /// The users may stand in any order and repeat; the event keeps them ascending, once each.
+    Direct {
+        sender: UserId,
+        to: List<UserId>,
         text: Text,
     },
 }
@@ -63,6 +93,35 @@ impl Request {
                 channel: *channel,
                 on: *on,
             }),
+            Request::Set { user, change } => Ok(Request::Set {
+                user: *user,
+                change: *change,
+            }),
+            Request::SetChannel {
+                user,
+                channel,
+                change,
+            } => Ok(Request::SetChannel {
+                user: *user,
+                channel: *channel,
+                change: *change,
+            }),
+            Request::SetPolicy {
+                user,
+                channel,
+                topic,
+                policy,
+            } => Ok(Request::SetPolicy {
+                user: *user,
+                channel: *channel,
+                topic: topic.copy()?,
+                policy: *policy,
+            }),
+            Request::Mute { user, other, on } => Ok(Request::Mute {
+                user: *user,
+                other: *other,
+                on: *on,
+            }),
             Request::Send {
                 sender,
                 channel,
@@ -72,6 +131,11 @@ impl Request {
                 sender: *sender,
                 channel: *channel,
                 topic: topic.copy()?,
+                text: text.copy()?,
+            }),
+            Request::Direct { sender, to, text } => Ok(Request::Direct {
+                sender: *sender,
+                to: to.copy()?,
                 text: text.copy()?,
             }),
         }
@@ -113,6 +177,8 @@ pub enum Refusal {
     TextTooLong,
     /// 19: the topic has more than 60 characters.
     TopicTooLong,
+    /// 20: the period is outside 1 to 604,800 seconds.
+    BadPeriod,
     /// 21: the user has no live queue of that id. The hub tells it.
     BadQueue,
     /// 22: the acked number is at least this one, the queue's next event number. The hub tells it.
@@ -140,6 +206,7 @@ impl Refusal {
             Refusal::EmptyText => 17,
             Refusal::TextTooLong => 18,
             Refusal::TopicTooLong => 19,
+            Refusal::BadPeriod => 20,
             Refusal::BadQueue => 21,
             Refusal::BadEventId { .. } => 22,
             Refusal::TooMany { .. } => 23,

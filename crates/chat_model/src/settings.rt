@@ -1,4 +1,6 @@
 //! A user's settings.
+ghost use Rattle.std.specs.Prelude.{◌≡◌};
+ghost use Rattle.chat_model.specs.Settings.{changed_settings};
 
 /// Nine switches, and the period of a user's mails in seconds (1 to 604,800).
 #[derive(Clone, Copy, Debug, PartialEq, Eq)]
@@ -35,4 +37,39 @@ impl Default for Settings {
             period: 120,
         }
     }
+}
+
+impl Settings {
+    /// The settings with a switch set.
+    pub fn changed(self, change: SettingChange) -> Settings
+        ensures { result ≡ changed_settings change self }
+    {
+        let mut settings = self;
+        match change {
+            SettingChange::MailMentions(on) => settings.mail_mentions = on,
+            SettingChange::PushMentions(on) => settings.push_mentions = on,
+            SettingChange::PushOnline(on) => settings.push_online = on,
+            SettingChange::ChannelMail(on) => settings.channel_mail = on,
+            SettingChange::ChannelPush(on) => settings.channel_push = on,
+            SettingChange::Wildcards(on) => settings.wildcards = on,
+            SettingChange::FollowedMail(on) => settings.followed_mail = on,
+            SettingChange::FollowedPush(on) => settings.followed_push = on,
+            SettingChange::FollowedWildcards(on) => settings.followed_wildcards = on,
+        }
+        settings
+    }
+}
+
+/// A change of one of the switches.
+#[derive(Clone, Copy, Debug, PartialEq, Eq)]
+pub enum SettingChange {
+    MailMentions(bool),
+    PushMentions(bool),
+    PushOnline(bool),
+    ChannelMail(bool),
+    ChannelPush(bool),
+    Wildcards(bool),
+    FollowedMail(bool),
+    FollowedPush(bool),
+    FollowedWildcards(bool),
 }

@@ -1,8 +1,8 @@
 use crate::{
     ChannelId, Conversation, Deal, DealNo, Entry, EntryNo, Event, GroupId, GroupName, Item, List,
-    MessageId, Moment, OutOfMemory, Outcome, PushItem, QueueId, Request, Row, RowChange, RowKey,
-    Settings, Stage, Stamped, Text, Trigger, UserId, UserName, UserVerdict, Verdict, Way,
-    duplicate_all,
+    MessageId, Moment, OutOfMemory, Outcome, Policy, PushItem, QueueId, Request, Row, RowChange,
+    RowKey, SettingChange, Settings, Specific, SpecificChange, Stage, Stamped, Text, Trigger,
+    UserId, UserName, UserVerdict, Verdict, Way, duplicate_all,
 };
 use std::alloc::Global;
 use std::cmp::Ordering;
@@ -183,6 +183,115 @@ fn subscriptions_and_messages_are_copied(rt: HostRuntime) -> Result<(), Fail> {
         _ => panic!(rt; "another request"),
     }
     Ok(())
+}
+
+#[test]
+fn changes_of_settings_are_copied(rt: HostRuntime) -> Result<(), Fail> {
+    let set = Request::Set {
+        user: UserId(2),
+        change: SettingChange::PushOnline(true),
+    };
+    match set.copy(rt.alloc())? {
+        Request::Set { user, change } => {
+            assert_eq!(rt; user, UserId(2));
+            assert_eq!(rt; change, SettingChange::PushOnline(true));
+        }
+        _ => panic!(rt; "another request"),
+    }
+    Ok(())
+}
+
+#[test]
+fn changes_for_a_channel_are_copied(rt: HostRuntime) -> Result<(), Fail> {
+    let set_channel = Request::SetChannel {
+        user: UserId(2),
+        channel: ChannelId(3),
+        change: SpecificChange::Mail(Some(false)),
+    };
+    match set_channel.copy(rt.alloc())? {
+        Request::SetChannel {
+            user,
+            channel,
+            change,
+        } => {
+            assert_eq!(rt; user, UserId(2));
+            assert_eq!(rt; channel, ChannelId(3));
+            assert_eq!(rt; change, SpecificChange::Mail(Some(false)));
+        }
+        _ => panic!(rt; "another request"),
+    }
+    Ok(())
+}
+
+#[test]
+fn policies_are_copied(rt: HostRuntime) -> Result<(), Fail> {
+    let alloc = rt.alloc();
+    let set_policy = Request::SetPolicy {
+        user: UserId(2),
+        channel: ChannelId(3),
+        topic: Text::from_str(alloc, "lunch")?,
+        policy: Policy::Followed,
+    };
+    match set_policy.copy(alloc)? {
+        Request::SetPolicy {
+            user,
+            channel,
+            topic,
+            policy,
+        } => {
+            assert_eq!(rt; user, UserId(2));
+            assert_eq!(rt; channel, ChannelId(3));
+            assert_eq!(rt; topic.as_str(), "lunch");
+            assert_eq!(rt; policy, Policy::Followed);
+        }
+        _ => panic!(rt; "another request"),
+    }
+    Ok(())
+}
+
+#[test]
+fn mutes_and_direct_messages_are_copied(rt: HostRuntime) -> Result<(), Fail> {
+    let alloc = rt.alloc();
+    let mute = Request::Mute {
+        user: UserId(2),
+        other: UserId(1),
+        on: true,
+    };
+    match mute.copy(alloc)? {
+        Request::Mute { user, other, on } => {
+            assert_eq!(rt; user, UserId(2));
+            assert_eq!(rt; other, UserId(1));
+            assert!(rt; on);
+        }
+        _ => panic!(rt; "another request"),
+    }
+    let mut users = List::new(alloc);
+    users.push(UserId(3))?;
+    users.push(UserId(2))?;
+    let message = Request::Direct {
+        sender: UserId(1),
+        to: users,
+        text: Text::from_str(alloc, "hi")?,
+    };
+    match message.copy(alloc)? {
+        Request::Direct { sender, to, text } => {
+            assert_eq!(rt; sender, UserId(1));
+            assert_eq!(rt; to.as_slice(), [UserId(3), UserId(2)].as_slice());
+            assert_eq!(rt; text.as_str(), "hi");
+        }
+        _ => panic!(rt; "another request"),
+    }
+    Ok(())
+}
+
+#[test]
+fn a_change_sets_its_switch(rt: HostRuntime) {
+    let settings = Settings::default().changed(SettingChange::PushOnline(true));
+    assert!(rt; settings.push_online);
+    assert!(rt; !settings.channel_push);
+    let specific = Specific::default().changed(SpecificChange::Muted(true));
+    assert!(rt; specific.muted);
+    assert!(rt; specific.mail.is_none());
 }
 
 #[test]

@@ -11,7 +11,7 @@ use Rattle.chat_model.specs.declared.trigger.Way.TheVariants.{Mail, Push}
 use Rattle.chat_model.specs.declared.trigger.Trigger.{Trigger}
 use Rattle.notice_ledger.specs.Past.Journal.{Occurrence, occurrence}
 use Rattle.notice_ledger.specs.Past.Values.{SentMessage, people, message_of, messages, deal_count}
-use Rattle.notice_ledger.specs.Past.Triggers.{trigger}
+use Rattle.notice_ledger.specs.Past.Triggers.{trigger, came_by}
 use Rattle.notice_ledger.specs.Past.Owed.{Notice, is_of, same_way, notice_of, owed_of, owed_by, notices, turn, waiting}
 use Rattle.notice_ledger.proofs.Lists.{AllByRecursion-append, AllByRecursion-weaker, AllByRecursion-filter_map, by_appending}
 use Rattle.notice_ledger.proofs.Appended.{notices-nil, notices-append}
@@ -81,6 +81,7 @@ notice_to : (o : Occurrence) (m : SentMessage) (u : UserId) (w : Way) (t : Optio
   way = w;
   message = m;
   trigger = t;
+  via = came_by o.past m.text u t;
   deal = record { 0 = deal_count o.past };
   owing = o;
 } in n) t ≡ Some n → IsTo u w n
@@ -95,7 +96,7 @@ owed_to o m u = filter_map (notice_of o m u) (Mail ∷ Push ∷ [])
 
 owed_to-user : (o : Occurrence) (m : SentMessage) (u : UserId) → AllByRecursion (λ n. n.user ≡ u) (owed_to o m u)
 owed_to-user o m u =
-    AllByRecursion-filter_map (λ n. n.user ≡ u) (notice_of o m u) (λ w n e. (notice_to o m u w (trigger m u w) n e).user) (Mail ∷ Push ∷ [])
+    AllByRecursion-filter_map (λ n. n.user ≡ u) (notice_of o m u) (λ w n e. (notice_to o m u w (trigger o.past m m.text u w) n e).user) (Mail ∷ Push ∷ [])
 
 by_two_ways : (a b : Notice) → a.way ≡ Mail → b.way ≡ Push → Differ a b
 by_two_ways a b p q =
@@ -111,8 +112,8 @@ two_apart (Some a) (Some b) f g = ((by_two_ways a b (f a refl) (g b refl), tt), 
 owed_to-apart : (o : Occurrence) (m : SentMessage) (u : UserId) → Pairwise Differ (owed_to o m u)
 owed_to-apart o m u =
     two_apart (notice_of o m u Mail) (notice_of o m u Push)
-    (λ n e. (notice_to o m u Mail (trigger m u Mail) n e).way)
-    (λ n e. (notice_to o m u Push (trigger m u Push) n e).way)
+    (λ n e. (notice_to o m u Mail (trigger o.past m m.text u Mail) n e).way)
+    (λ n e. (notice_to o m u Push (trigger o.past m m.text u Push) n e).way)
 
 -- what a send owes these users is to users from this one on
 owed_from : (o : Occurrence) (m : SentMessage) (low k n : ℕ) → low ≤ k → AllByRecursion (λ a. low ≤ a.user.0) (flat_map (owed_to o m) (map (λ i. record { 0 = i }) (range_with_len k n)))

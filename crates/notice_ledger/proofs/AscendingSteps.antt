@@ -5,7 +5,6 @@ use Rattle.std.proofs.lemmas.Bool.{and_parts, and_from, lt-ltb, le-ltb}
 use Rattle.std.proofs.Math.Bool.{and-true, and-false}
 use Rattle.std.proofs.lemmas.List.{append_assoc, take-append-drop, take_all, get_or_default}
 use Rattle.chat_model.specs.declared.ids.UserId.{UserId}
-use Rattle.chat_model.specs.Ascending.{is_ascending_by}
 use Rattle.notice_ledger.specs.InOrder.{is_ascending}
 use Rattle.notice_ledger.proofs.Lists.{take_next}
 

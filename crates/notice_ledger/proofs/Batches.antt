@@ -1,8 +1,7 @@
 -- A user's batch rows and due moment, over the notices that wait.
-use Rattle.std.proofs.Common.{◌≡◌, ◌+◌, ◌≤◌, Bool, true, false, ◌&&◌, ◌==◌, cond, List, [], ◌∷◌, map, refl, sym, ap, ◌∙◌}
-use Rattle.std.specs.Prelude.{Option, Some, None, option_map, is_none, filter, find, fold, if◌then◌else◌}
-use Rattle.std.specs.List.{AllByRecursion, filter_map, reduce, cons_option}
-use Rattle.std.specs.Option.{option_map_or}
+use Rattle.std.proofs.Common.{◌≡◌, ◌+◌, ◌≤◌, Bool, ◌&&◌, ◌==◌, cond, List, [], ◌∷◌, refl, sym, ap, ◌∙◌}
+use Rattle.std.specs.Prelude.{Option, Some, None, option_map, is_none, filter, find, fold}
+use Rattle.std.specs.List.{AllByRecursion, filter_map, reduce}
 use Rattle.std.proofs.lemmas.Bool.{le-ltb, le-leb}
 use Rattle.std.proofs.Math.Bool.{and_comm}
 use Rattle.chat_model.specs.declared.event.Stamped.{Stamped}
@@ -10,7 +9,7 @@ use Rattle.chat_model.specs.declared.ids.UserId.{UserId}
 use Rattle.chat_model.specs.declared.trigger.Way.TheVariants.{Mail}
 use Rattle.notice_ledger.specs.Past.Journal.{Occurrence}
 use Rattle.notice_ledger.specs.Past.Values.{settings}
-use Rattle.notice_ledger.specs.Past.Owed.{Notice, notices, turn, waiting, same_way, decided, switch_on}
+use Rattle.notice_ledger.specs.Past.Owed.{Notice, notices, turn, waiting, same_way}
 use Rattle.notice_ledger.specs.Past.Due.{batch_rows, is_batch_row, due, earlier}
 use Rattle.notice_ledger.specs.Past.Outbox.{by_message, put_by_message}
 use Rattle.notice_ledger.proofs.Lists.{filter-filter, find-filter, first_of}

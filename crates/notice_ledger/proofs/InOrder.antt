@@ -1,21 +1,22 @@
 -- Users that ascend, and why a request that is not refused may stand once its lists are in order.
-use Rattle.std.proofs.Common.{◌≡◌, ℕ, true, false, not, List, ◌∷◌, None, length, refl, ap, ◌∙◌, Bool, arith}
+use Rattle.std.proofs.Common.{◌≡◌, ℕ, true, false, ◌&&◌, not, List, [], ◌∷◌, None, length, refl, ap, ◌∙◌, Bool, arith}
 use Rattle.std.specs.Prelude.{nat_lt, is_none}
 use Rattle.std.specs.List.{list_all}
-use Rattle.std.proofs.lemmas.Bool.{and_from, le-ltb, ltb-false, not-false, not_from_true}
+use Rattle.std.proofs.lemmas.Bool.{and_parts, and_from, le-ltb, ltb-false, not-false, not_from_true}
 use Rattle.chat_model.specs.declared.event.Stamped.{Stamped}
 use Rattle.chat_model.specs.declared.event.Event.TheVariants.{Asked}
 use Rattle.chat_model.specs.declared.ids.UserId.{UserId}
 use Rattle.chat_model.specs.declared.request.Refusal.{Refusal}
-use Rattle.chat_model.specs.declared.request.Refusal.TheVariants.{NoUser, Exists, TooMany}
+use Rattle.chat_model.specs.declared.request.Refusal.TheVariants.{NoUser, Exists, EmptyText, TextTooLong, TooMany}
 use Rattle.chat_model.specs.declared.request.Request.{Request}
-use Rattle.chat_model.specs.declared.request.Request.TheVariants.{AddGroup}
+use Rattle.chat_model.specs.declared.request.Request.TheVariants.{AddGroup, Direct}
 use Rattle.chat_model.specs.Ascending.{ascending_once_by}
 use Rattle.chat_model.proofs.OnceEach as lists
 use Rattle.notice_ledger.specs.InOrder.{in_order, is_ascending, is_in_order}
 use Rattle.notice_ledger.specs.Past.Lawful.{may_stand}
 use Rattle.notice_ledger.specs.Past.Refusals.{Rule, first_broken, is_taken, name_rules, refusal, rule}
-use Rattle.notice_ledger.specs.Limits.{most_items}
+use Rattle.notice_ledger.specs.Limits.{longest_text, most_items}
+use Rattle.notice_ledger.specs.Texts.{is_blank, is_longer_than}
 use Rattle.notice_ledger.specs.Past.Values.{groups, is_one_of, is_user}
 
 -- ---- users that ascend
@@ -61,10 +62,27 @@ in_order-not_refused j (AddGroup name members) h =
     (not_from_true (list_all (is_user j) (ascending_once members)) users_still)
     (unbroken_from (is_taken (groups j) name) Exists few_still free.0
     (unbroken_from (nat_lt most_items (length (ascending_once members))) (TooMany most_items) named (ascending_once-not_many most_items members sized.0) sized.1))
+in_order-not_refused j (Direct sender to text) h =
+    let sized : List Rule = rule (nat_lt most_items (length to)) (TooMany most_items) ∷ [] in
+    let short : List Rule = rule (is_longer_than longest_text text) TextTooLong ∷ sized in
+    let users = unbroken (not (is_user j sender && list_all (is_user j) to)) NoUser (rule (is_blank text) EmptyText ∷ short) h in
+    let some = unbroken (is_blank text) EmptyText short users.1 in
+    let brief = unbroken (is_longer_than longest_text text) TextTooLong sized some.1 in
+    let few = unbroken (nat_lt most_items (length to)) (TooMany most_items) [] brief.1 in
+    let named = and_parts (is_user j sender) (list_all (is_user j) to) (not-false (is_user j sender && list_all (is_user j) to) users.0) in
+    let users_still : (is_user j sender && list_all (is_user j) (ascending_once to)) ≡ true = and_from (is_user j sender) (list_all (is_user j) (ascending_once to)) named.0 (lists.ascending_once-all number (is_user j) to named.1) in
+    let sized_still : List Rule = rule (nat_lt most_items (length (ascending_once to))) (TooMany most_items) ∷ [] in
+    let short_still : List Rule = rule (is_longer_than longest_text text) TextTooLong ∷ sized_still in
+    unbroken_from (not (is_user j sender && list_all (is_user j) (ascending_once to))) NoUser (rule (is_blank text) EmptyText ∷ short_still)
+    (not_from_true (is_user j sender && list_all (is_user j) (ascending_once to)) users_still)
+    (unbroken_from (is_blank text) EmptyText short_still some.0
+    (unbroken_from (is_longer_than longest_text text) TextTooLong sized_still brief.0
+    (unbroken_from (nat_lt most_items (length (ascending_once to))) (TooMany most_items) [] (ascending_once-not_many most_items to few.0) refl)))
 in_order-not_refused j request h = h
 
 pub in_order-is_in_order : (request : Request) → is_in_order (in_order request) ≡ true
 in_order-is_in_order (AddGroup name members) = lists.ascending_once-ascending number members
+in_order-is_in_order (Direct sender to text) = lists.ascending_once-ascending number to
 in_order-is_in_order request = refl
 
 -- a request that is not refused may stand next, once its lists are in order

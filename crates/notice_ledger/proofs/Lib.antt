@@ -1,5 +1,7 @@
 pub mod Lists
 pub mod Appended
+pub mod SettingLemmas
+pub mod Handed
 pub mod Waiting
 pub mod Ascending
 pub mod Batches

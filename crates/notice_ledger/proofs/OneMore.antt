@@ -1,8 +1,8 @@
 -- Accounts, batch rows, due moments, counts, members and subscribers at a journal with one more event.
-use Rattle.std.proofs.Common.{◌≡◌, ℕ, ◌+◌, ◌<◌, Bool, true, false, ◌&&◌, ◌==◌, cond, not, List, [], ◌∷◌, ◌++◌, length, map, refl, sym, ap, ◌∙◌, subst, length-append}
-use Rattle.std.specs.Prelude.{Option, Some, None, option_map, option_to_list, unwrap_or, is_none, is_some, filter, find, count_by, if◌then◌else◌}
+use Rattle.std.proofs.Common.{◌≡◌, ℕ, ◌+◌, ◌<◌, Bool, true, false, ◌&&◌, cond, not, List, [], ◌∷◌, ◌++◌, length, refl, sym, ap, ◌∙◌, subst, length-append}
+use Rattle.std.specs.Prelude.{Option, Some, None, option_map, option_to_list, unwrap_or, is_none, is_some, filter, find, count_by}
 use Rattle.std.specs.Option.{option_map_or, option_or}
-use Rattle.std.specs.List.{AllByRecursion, filter_map, reduce, range_with_len}
+use Rattle.std.specs.List.{AllByRecursion, filter_map, reduce}
 use Rattle.std.proofs.lemmas.List.Elements.{filter-append}
 use Rattle.std.proofs.lemmas.List.Folds.{find-append}
 use Rattle.std.proofs.Math.Bool.{and_comm}
@@ -12,21 +12,19 @@ use Rattle.chat_model.specs.declared.ids.UserId.{UserId}
 use Rattle.chat_model.specs.declared.ids.MessageId.{MessageId}
 use Rattle.chat_model.specs.declared.ids.ChannelId.{ChannelId}
 use Rattle.chat_model.specs.declared.ids.GroupId.{GroupId}
-use Rattle.chat_model.specs.declared.row.Cause.TheVariants.{SwitchedOff}
 use Rattle.chat_model.specs.declared.trigger.Way.{Way}
-use Rattle.notice_ledger.specs.declared.accounts.Account.{Account}
-use Rattle.notice_ledger.specs.declared.accounts.Account.TheVariants.{NotOwed, Ready, Handed, Cancelled}
+use Rattle.notice_ledger.specs.declared.accounts.Account.TheVariants.{NotOwed, Ready}
 use Rattle.notice_ledger.specs.Past.Journal.{Occurrence, occurrence}
 use Rattle.notice_ledger.specs.Past.Values.{users, settings, is_member, membership_change, member_count, subscribed, subscription_change, subscriber_count}
 use Rattle.notice_ledger.specs.Past.Owed.{Notice, is_of, notices, owed_by, turn, decided, account_of, account, waiting}
-use Rattle.notice_ledger.specs.Past.Due.{DueUser, batch_rows, due, due_user, first_due, sooner}
+use Rattle.notice_ledger.specs.Past.Due.{batch_rows, due, due_user, first_due, sooner}
 use Rattle.notice_ledger.specs.Past.Outbox.{outbox, entries_by}
 use Rattle.notice_ledger.specs.Past.Audit.{in_64_bits, counts_of}
 use Rattle.notice_ledger.proofs.Lists.{filter-filter, find-filter, first_of}
 use Rattle.notice_ledger.proofs.Appended.{notices-append, outbox-append, is_member-append, subscribed-append}
 use Rattle.notice_ledger.proofs.Waiting.{IsOwedBy, owed_by-each, notices-placed, is_turn, turn-append, turn-last, waiting-append}
 use Rattle.notice_ledger.proofs.Batches.{is_mail_of, filter_same, batch_rows-waiting, due-waiting}
-use Rattle.notice_ledger.proofs.Audited.{counts_of-waiting}
+use Rattle.notice_ledger.proofs.Audited.{counts_of-waiting, switched_off}
 use Rattle.notice_ledger.proofs.Sums.{sum_by_same}
 use Rattle.notice_ledger.proofs.There.{added_user, users-append}
 
@@ -104,27 +102,28 @@ first_due-append j s = ap (λ us. reduce sooner (filter_map (due_user (j ++ s �
 
 -- ---- counts
 
--- the counts where so many notices wait and the outbox has so many entries
-abbrev pub counted : ℕ → ℕ → Counts
-counted waiting entries = record {
+-- the counts where so many notices wait, the outbox has so many entries and so many notices were switched off
+abbrev pub counted : ℕ → ℕ → ℕ → Counts
+counted waiting entries off = record {
   flight = 0;
   held = 0;
   ready = in_64_bits waiting;
   handed = in_64_bits entries;
   read = 0;
   deleted = 0;
-  off = 0;
+  off = in_64_bits off;
   live = 0;
   entries = in_64_bits entries;
   waiting = 0;
   written = 0;
 }
 
-pub counts_of-append : (j : List Stamped) (s : Stamped) → counts_of (j ++ s ∷ []) ≡ counted (length (filter (λ n. not (is_turn s n)) (waiting j)) + length (owed_by (occurrence j s))) (length (outbox j) + length (entries_by j s.at s.event))
+pub counts_of-append : (j : List Stamped) (s : Stamped) → counts_of (j ++ s ∷ []) ≡ counted (length (filter (λ n. not (is_turn s n)) (waiting j)) + length (owed_by (occurrence j s))) (length (outbox j) + length (entries_by j s.at s.event)) (switched_off (j ++ s ∷ []))
 counts_of-append j s =
+    let off = switched_off (j ++ s ∷ []) in
     counts_of-waiting (j ++ s ∷ [])
-    ∙ (ap (λ n. counted n (length (outbox (j ++ s ∷ [])))) (ap length (waiting-append j s) ∙ length-append (filter (λ n. not (is_turn s n)) (waiting j)) (owed_by (occurrence j s)))
-    ∙ ap (counted (length (filter (λ n. not (is_turn s n)) (waiting j)) + length (owed_by (occurrence j s)))) (ap length (outbox-append j s) ∙ length-append (outbox j) (entries_by j s.at s.event)))
+    ∙ (ap (λ n. counted n (length (outbox (j ++ s ∷ []))) off) (ap length (waiting-append j s) ∙ length-append (filter (λ n. not (is_turn s n)) (waiting j)) (owed_by (occurrence j s)))
+    ∙ ap (λ n. counted (length (filter (λ n. not (is_turn s n)) (waiting j)) + length (owed_by (occurrence j s))) n off) (ap length (outbox-append j s) ∙ length-append (outbox j) (entries_by j s.at s.event)))
 
 -- ---- members and subscribers
 

@@ -1,26 +1,25 @@
 -- What the slow computation finds owed is what is owed.
-use Rattle.std.proofs.Common.{◌≡◌, ℕ, suc, zero, ◌+◌, Bool, true, false, ◌&&◌, ◌||◌, ◌==◌, not, cond, List, [], ◌∷◌, ◌++◌, length, map, refl, sym, ap, ◌∙◌}
-use Rattle.std.specs.Prelude.{Option, Some, None, option_map, option_to_list, unwrap_or, slice_get, Ok, Err, Result, IfOk, filter, if◌then◌else◌}
+use Rattle.std.proofs.Common.{◌≡◌, ℕ, suc, zero, ◌+◌, false, ◌&&◌, ◌==◌, not, List, [], ◌∷◌, ◌++◌, length, map, refl, sym, ap, ◌∙◌}
+use Rattle.std.specs.Prelude.{Option, Some, None, option_map, option_to_list, unwrap_or, is_some, slice_get, if◌then◌else◌}
 use Rattle.std.specs.Option.{option_map_or}
-use Rattle.std.specs.List.{list_any, filter_map, flat_map, cons_option, range_with_len}
+use Rattle.std.specs.List.{filter_map, flat_map, cons_option, range_with_len}
 use Rattle.std.proofs.lemmas.List.{append_assoc, append-nil, map-append}
 use Rattle.std.proofs.lemmas.Grind.{flat_map-append}
 use Rattle.chat_model.specs.declared.event.Stamped.{Stamped}
 use Rattle.chat_model.specs.declared.ids.UserId.{UserId}
 use Rattle.chat_model.specs.declared.ids.MessageId.{MessageId}
-use Rattle.chat_model.specs.declared.mentions.Mentions.{Mentions}
 use Rattle.chat_model.specs.declared.mentions.UserName.{UserName}
 use Rattle.chat_model.specs.declared.trigger.Trigger.{Trigger}
-use Rattle.chat_model.specs.declared.trigger.Trigger.TheVariants.{Mention}
 use Rattle.chat_model.specs.declared.trigger.Way.{Way}
 use Rattle.chat_model.specs.declared.trigger.Way.TheVariants.{Mail, Push}
 use Rattle.notice_ledger.specs.declared.owed.Owed.{Owed}
-use Rattle.notice_ledger.specs.declared.owed.Heard.{Heard}
-use Rattle.notice_ledger.specs.Past.Journal.{Occurrence, occurrence}
-use Rattle.notice_ledger.specs.Past.Values.{numbered, Person, people, named_from, user_names, users, is_bot, is_one_of, is_member, messages, deal_count, SentMessage, subscribed, settings}
-use Rattle.notice_ledger.specs.Past.Triggers.{is_recipient, mentions_of, is_mentioned, mention_switch, trigger}
+use Rattle.notice_ledger.specs.declared.facts.Heard.{Heard}
+use Rattle.chat_model.specs.Triggers.{trigger_of}
+use Rattle.notice_ledger.specs.Past.Journal.{occurrence}
+use Rattle.notice_ledger.specs.Past.Values.{numbered, Person, people, named_from, user_names, users, is_bot, messages, deal_count, SentMessage, settings, has_muted}
+use Rattle.notice_ledger.specs.Past.Triggers.{goes_to, is_direct, mentions_of, is_participant_of, policy_for, specific_for, facts_of, trigger, came_by}
 use Rattle.notice_ledger.specs.Past.Owed.{Notice, notice_of, owed_of}
-use Rattle.notice_ledger.specs.Plain.{owed_kept, notifies, owed_to, owed_to_all}
+use Rattle.notice_ledger.specs.Plain.{owed_kept, is_mentioned_in, facts_heard, owed_to, owed_to_all}
 
 -- ---- lists
 
@@ -82,50 +81,64 @@ pub record IsHeard (j : List Stamped) (text : List ℕ) (h : Heard) : Type 0 whe
   pub bots : h.bots.items ≡ map (λ (p : Person). p.bot) (people j)
 
 -- the message
-abbrev pub message_heard : List Stamped → Heard → List ℕ → List ℕ → SentMessage
-message_heard j h topic text = record { past = j; sender = h.sender; channel = h.channel; topic = topic; text = text }
+abbrev pub message_heard : List Stamped → Heard → List ℕ → SentMessage
+message_heard j h text = record { past = j; sender = h.sender; to = h.to; text = text }
 
-module _ (j : List Stamped) (s : Stamped) (h : Heard) (topic text : List ℕ) (heard : IsHeard j text h) where
+module _ (j : List Stamped) (s : Stamped) (h : Heard) (text : List ℕ) (heard : IsHeard j text h) where
   bot_heard : (u : UserId) → unwrap_or (numbered u.0 h.bots.items) false ≡ is_bot j u
   bot_heard u =
       ap (λ bs. unwrap_or (numbered u.0 bs) false) heard.bots
       ∙ (ap (λ o. unwrap_or o false) (numbered-map (λ (p : Person). p.bot) u.0 (people j)) ∙ unwrap-map (λ (p : Person). p.bot) (numbered u.0 (people j)) false)
 
-  notifies_heard : (u : UserId) (w : Way) → notifies j h u w ≡ (is_recipient (message_heard j h topic text) u && not (is_bot j u) && (is_mentioned j text u && mention_switch w (settings j u)))
-  notifies_heard u w =
-      ap (λ b. subscribed j u h.channel && not (u.0 == h.sender.0) && not b && ((is_one_of h.mentioned.users u || list_any (λ g. is_member j g u) h.mentioned.groups) && mention_switch w (settings j u))) (bot_heard u)
-      ∙ ap (λ (m : Mentions). subscribed j u h.channel && not (u.0 == h.sender.0) && not (is_bot j u) && ((is_one_of m.users u || list_any (λ g. is_member j g u) m.groups) && mention_switch w (settings j u))) heard.mentioned
+  -- what is so of a user, as it was heard
+  facts-heard : (u : UserId) → facts_heard j h u ≡ facts_of j (message_heard j h text) text u
+  unfolding facts_heard facts_of
+  facts-heard u = λ i. record {
+    own = u.0 == h.sender.0;
+    bot = bot_heard u i;
+    sender_muted = has_muted j u h.sender;
+    recipient = goes_to j h.to u && not (u.0 == h.sender.0);
+    direct = is_direct h.to;
+    mentioned = is_mentioned_in j (heard.mentioned i) u;
+    channel_wildcard = (heard.mentioned i).channel_wildcard && not (is_direct h.to);
+    topic_wildcard = (heard.mentioned i).topic_wildcard && not (is_direct h.to);
+    participant = is_participant_of j h.to u;
+    policy = policy_for j h.to u;
+    specific = specific_for j h.to u;
+    settings = settings j u;
+  }
 
-  trigger_heard : (u : UserId) (w : Way) → trigger (message_heard j h topic text) u w ≡ (if notifies j h u w then Some Mention else None)
+  trigger_heard : (u : UserId) (w : Way) → trigger j (message_heard j h text) text u w ≡ trigger_of (facts_heard j h u) w
   unfolding trigger
-  trigger_heard u w = ap (λ b. if b then Some Mention else None) (sym (notifies_heard u w))
+  trigger_heard u w = ap (λ f. trigger_of f w) (sym (facts-heard u))
 
   number_heard : let n : MessageId = record { 0 = length (messages j) + 1 } in h.number ≡ n
   number_heard = ap (λ k. let n : MessageId = record { 0 = k } in n) heard.number
 
-  owed_heard : (u : UserId) (w : Way) → option_map owed_kept (notice_of (occurrence j s) (message_heard j h topic text) u w) ≡ owed_to j s.at h u w
+  owed_heard : (u : UserId) (w : Way) → option_map owed_kept (notice_of (occurrence j s) (message_heard j h text) u w) ≡ owed_to j s.at h u w
   owed_heard u w =
-      ap (λ t. option_map owed_kept (of_trigger t)) (trigger_heard u w) ∙ by (notifies j h u w)
+      ap (λ t. option_map owed_kept (of_trigger t)) (trigger_heard u w) ∙ by (trigger_of (facts_heard j h u) w)
     where
       of_trigger : Option Trigger → Option Notice
       of_trigger t = option_map (λ (t : Trigger). let n : Notice = record {
         user = u;
         number = record { 0 = length (messages j) + 1 };
         way = w;
-        message = message_heard j h topic text;
+        message = message_heard j h text;
         trigger = t;
+        via = came_by j text u t;
         deal = record { 0 = deal_count j };
         owing = occurrence j s;
       } in n) t
 
-      by : (b : Bool) → option_map owed_kept (of_trigger (if b then Some Mention else None)) ≡ (if b then Some (record { user = u; message = h.number; way = w; place = length j; at = s.at }) else None)
-      by true = ap (λ (n : MessageId). let o : Owed = record { user = u; message = n; way = w; place = length j; at = s.at } in Some o) (sym number_heard)
-      by false = refl
+      by : (t : Option Trigger) → option_map owed_kept (of_trigger t) ≡ (if is_some t then Some (record { user = u; message = h.number; way = w; place = length j; at = s.at }) else None)
+      by (Some t) = ap (λ (n : MessageId). let o : Owed = record { user = u; message = n; way = w; place = length j; at = s.at } in Some o) (sym number_heard)
+      by None = refl
 
   -- what the send of the message owes
-  pub owed_of_heard : map owed_kept (owed_of (occurrence j s) (message_heard j h topic text)) ≡ owed_to_all j s.at h (user_names j)
+  pub owed_of_heard : map owed_kept (owed_of (occurrence j s) (message_heard j h text)) ≡ owed_to_all j s.at h (user_names j)
   owed_of_heard =
-      let o = occurrence j s in let m = message_heard j h topic text in
+      let o = occurrence j s in let m = message_heard j h text in
       let to_user = λ (u : UserId). filter_map (notice_of o m u) (Mail ∷ Push ∷ []) in
       let heard_by = λ (name : UserName). filter_map (owed_to j s.at h name.id) (Mail ∷ Push ∷ []) in
       ap (λ us. map owed_kept (flat_map to_user us)) (sym (ids-user_names j))

@@ -1,10 +1,9 @@
 -- Where the notices of one user, message and way stand: among those that wait, in the outbox, or cancelled.
-use Rattle.std.proofs.Common.{◌≡◌, ◌≢◌, ℕ, ◌+◌, Bool, true, false, ◌&&◌, ◌==◌, eqb, cond, length, ◌<◌, List, [], ◌∷◌, ◌++◌, map, refl, sym, ap, ◌∙◌, arith}
+use Rattle.std.proofs.Common.{◌≡◌, ◌≢◌, ℕ, ◌+◌, Bool, true, false, ◌&&◌, ◌==◌, cond, length, ◌<◌, List, [], ◌∷◌, ◌++◌, map, refl, sym, ap, ◌∙◌}
 use Rattle.std.specs.Prelude.{Option, Some, None, is_none, filter, find, sum_by, count_by, if◌then◌else◌}
-use Rattle.std.specs.Option.{option_or, option_map_or}
+use Rattle.std.specs.Option.{option_map_or}
 use Rattle.std.proofs.lemmas.List.Sums.{sum_by-append, sum_by-cons}
-use Rattle.std.proofs.lemmas.Bool.{eqb-true, and_parts}
-use Rattle.std.proofs.lemmas.Bool.Decides.{nat_tests}
+use Rattle.std.proofs.lemmas.Bool.{and_parts}
 use Rattle.chat_model.specs.declared.event.Stamped.{Stamped}
 use Rattle.chat_model.specs.declared.event.Event.{Event}
 use Rattle.chat_model.specs.declared.event.Event.TheVariants.{Restart, Asked, MailTurn}
@@ -15,94 +14,16 @@ use Rattle.chat_model.specs.declared.trigger.Way.{Way}
 use Rattle.chat_model.specs.declared.trigger.Way.TheVariants.{Mail, Push}
 use Rattle.notice_ledger.specs.declared.accounts.Account.TheVariants.{NotOwed, Ready, Handed, Cancelled}
 use Rattle.notice_ledger.specs.Past.Journal.{Occurrence, occurrence}
-use Rattle.notice_ledger.specs.Past.Owed.{Notice, is_of, same_way, notices, owed_by, turn, is_turn_of, is_mail_turn_of, switch_on, account_of, account, decided, is_cancelled, waiting}
+use Rattle.notice_ledger.specs.Past.Owed.{Notice, is_of, same_way, notices, owed_by, turn, is_mail_turn_of, switch_on, account_of, account, decided, is_cancelled, waiting}
 use Rattle.notice_ledger.specs.Past.Outbox.{mail_entry, entries_by, outbox}
 use Rattle.notice_ledger.specs.Conserved.{items_of}
 use Rattle.notice_ledger.proofs.Lists.{by_appending}
 use Rattle.notice_ledger.proofs.Appended.{notices-nil, notices-append, outbox-nil, outbox-append}
-use Rattle.notice_ledger.proofs.Waiting.{IsOwedBy, owed_by-each, notices-placed, is_turn, turn-append, turn-last}
+use Rattle.notice_ledger.proofs.Waiting.{IsOwedBy, owed_by-each, notices-placed, turn-append, turn-last}
 use Rattle.notice_ledger.proofs.Batches.{is_mail_of, by_message-batch_rows}
 use Rattle.notice_ledger.proofs.Sums.{sum_by_same, sum_by_none_where, sum_by_both_where, sum_by-map, sum_by-filter}
+use Rattle.notice_ledger.proofs.Handed.{handed, handed_by, placed, plus_none, none_plus, handed-later, handed-none, cond_sum, cond_none, never, never_both, ends_false, eqb-turned, one_of_both, same_user, same_message, same_ways, no_turn}
 use Rattle.notice_ledger.proofs.Apart.{Pairwise, AllByRecursion-from_all, Differ, notices-apart}
-
--- ---- what a turn hands over
-
--- 1 where the notice had its turn, with the switch on before it
-abbrev pub handed : Notice → Option Occurrence → ℕ
-handed n t = option_map_or (λ o. cond (switch_on o.past n.user n.way) 1 0) t 0
-
--- 1 where the event is the notice's turn, with the switch on before it
-abbrev handed_by : List Stamped → Event → Notice → ℕ
-handed_by j e n = cond (is_turn_of n.user n.way e) (cond (switch_on j n.user n.way) 1 0) 0
-
--- 1 where the notice had no turn, or its turn with the switch on before it
-abbrev placed : Notice → Option Occurrence → ℕ
-placed n t = option_map_or (λ o. cond (switch_on o.past n.user n.way) 1 0) t 1
-
-plus_none : (n : ℕ) → n ≡ n + 0
-plus_none n = omega arith
-
-none_plus : (n : ℕ) → n ≡ 0 + n
-none_plus n = omega arith
-
-handed-later : (j : List Stamped) (s : Stamped) (n : Notice) (t : Option Occurrence) → handed n (option_or t (cond (is_turn s n) (Some (occurrence j s)) None)) ≡ handed n t + cond (is_none t) (handed_by j s.event n) 0
-handed-later j s n None =
-    elim (is_turn s n) as (λ b. handed n (cond b (Some (occurrence j s)) None) ≡ 0 + cond b (cond (switch_on j n.user n.way) 1 0) 0) [
-      | true ↦ none_plus (cond (switch_on j n.user n.way) 1 0)
-      | false ↦ refl
-    ]
-handed-later j s n (Some t) = plus_none (handed n (Some t))
-
-handed-none : (n : Notice) (t : Option Occurrence) → is_none t ≡ true → handed n t ≡ 0
-handed-none n None e = refl
-handed-none n (Some t) e = absurd (cc)
-
-cond_sum : (b c : Bool) (x y z : ℕ) → x ≡ y + cond c z 0 → cond b x 0 ≡ cond b y 0 + cond c (cond b z 0) 0
-cond_sum true c x y z e = e
-cond_sum false true x y z e = refl
-cond_sum false false x y z e = refl
-
-cond_none : (b : Bool) (x : ℕ) → x ≡ 0 → cond b x 0 ≡ 0
-cond_none true x e = e
-cond_none false x e = refl
-
-never : (b : Bool) → ◌≡◌ {A = ℕ} (cond b 0 0) 0
-never true = refl
-never false = refl
-
-never_both : (a b : Bool) → ◌≡◌ {A = ℕ} (cond (a && true) (cond b 0 0) 0) 0
-never_both true b = never b
-never_both false b = refl
-
-ends_false : (b : Bool) (x : ℕ) → cond (b && false) x 0 ≡ 0
-ends_false true x = refl
-ends_false false x = refl
-
-eqb-turned : (a b : ℕ) → eqb a b ≡ eqb b a
-eqb-turned a b = grind (arith, nat_tests)
-
-one_of_both : (b c on : Bool) → cond on (cond b (0 + cond c 1 0) 0) 0 ≡ cond (b && c && true) (cond on 1 0) 0
-one_of_both true true true = refl
-one_of_both true true false = refl
-one_of_both true false true = refl
-one_of_both true false false = refl
-one_of_both false c true = refl
-one_of_both false c false = refl
-
-same_user : (u v : UserId) → eqb u.0 v.0 ≡ true → u ≡ v
-same_user u v h = ap (λ (k : ℕ). let x : UserId = record { 0 = k } in x) (eqb-true u.0 v.0 h)
-
-same_message : (m n : MessageId) → eqb m.0 n.0 ≡ true → m ≡ n
-same_message m n h = ap (λ (k : ℕ). let x : MessageId = record { 0 = k } in x) (eqb-true m.0 n.0 h)
-
-same_ways : (v w : Way) → same_way v w ≡ true → v ≡ w
-same_ways Mail Mail e = refl
-same_ways Push Push e = refl
-same_ways v w e = cc
-
-no_turn : (user : UserId) (way : Way) (e : Event) → is_mail_turn_of user e ≡ false → is_turn_of user way e ≡ false
-no_turn user Mail e h = h
-no_turn user Push e h = refl
 
 module _ (u : UserId) (m : MessageId) (w : Way) where
   -- where the user has its turn, the notice's item stands in its entry

@@ -1,12 +1,12 @@
 -- Rules stand in the order of their refusals' numbers, and so the first that is broken has the least number.
-use Rattle.std.proofs.Common.{◌≡◌, ℕ, suc, ◌<◌, ◌≤◌, Bool, true, false, List, [], ◌∷◌, length, refl, sym, ◌∙◌, arith}
-use Rattle.std.specs.Prelude.{Option, Some, None, All, Any, nat_lt, if◌then◌else◌}
+use Rattle.std.proofs.Common.{◌≡◌, ℕ, suc, ◌<◌, ◌≤◌, Bool, true, false, List, [], ◌∷◌, refl, arith}
+use Rattle.std.specs.Prelude.{Option, Some, None, Any, nat_lt, if◌then◌else◌}
 use Rattle.std.specs.List.{AllByRecursion}
 use Rattle.std.proofs.lemmas.Bool.{and_parts, ltb-true}
 use Rattle.std.proofs.lemmas.List.Elements.{All-nil, All-cons, All-from_recursion}
 use Rattle.chat_model.specs.declared.event.Stamped.{Stamped}
 use Rattle.chat_model.specs.declared.request.Request.{Request}
-use Rattle.chat_model.specs.declared.request.Request.TheVariants.{AddUser, AddGroup, Member, AddChannel, Subscribe, Send}
+use Rattle.chat_model.specs.declared.request.Request.TheVariants.{AddUser, AddGroup, Member, AddChannel, Subscribe, Set, SetChannel, SetPolicy, Mute, Send, Direct}
 use Rattle.chat_model.specs.declared.request.Refusal.{Refusal}
 use Rattle.chat_model.specs.Ascending.{is_ascending_by}
 use Rattle.chat_model.specs.Refusals.{refusal_number}
@@ -23,7 +23,12 @@ rules_of-ascend j (AddGroup name members) = refl
 rules_of-ascend j (Member group user on) = refl
 rules_of-ascend j (AddChannel name) = refl
 rules_of-ascend j (Subscribe user channel on) = refl
+rules_of-ascend j (Set user change) = refl
+rules_of-ascend j (SetChannel user channel change) = refl
+rules_of-ascend j (SetPolicy user channel topic policy) = refl
+rules_of-ascend j (Mute user other on) = refl
 rules_of-ascend j (Send sender channel topic text) = refl
+rules_of-ascend j (Direct sender to text) = refl
 
 -- no later rule has a lesser number
 ascend-least : (r : Rule) (rules : List Rule) → is_ascending_by number (r ∷ rules) ≡ true → AllByRecursion (λ q. number r ≤ number q) rules

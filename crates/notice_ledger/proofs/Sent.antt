@@ -1,19 +1,18 @@
 -- Each notice is of a message of the journal, and each message makes a deal.
-use Rattle.std.proofs.Common.{◌≡◌, ℕ, zero, suc, ◌+◌, List, [], ◌∷◌, ◌++◌, length, refl, sym, ap, ◌∙◌, subst, add-one, length-append}
-use Rattle.std.specs.Prelude.{Option, Some, None, option_map, option_to_list, slice_get, cond, is_none, MatchOption}
+use Rattle.std.proofs.Common.{◌≡◌, ℕ, zero, suc, ◌+◌, Bool, false, ◌&&◌, ◌||◌, ◌==◌, List, [], ◌∷◌, ◌++◌, length, refl, sym, ap, ◌∙◌, subst, add-one, length-append}
+use Rattle.std.specs.Prelude.{Option, Some, None, option_map, option_to_list, slice_get, cond, is_none, is_some, MatchOption}
 use Rattle.std.specs.Option.{option_map_or}
-use Rattle.std.specs.List.{AllByRecursion, filter_map}
+use Rattle.std.specs.List.{AllByRecursion, filter_map, list_any, cons_option}
 use Rattle.chat_model.specs.declared.event.Stamped.{Stamped}
 use Rattle.chat_model.specs.declared.event.Event.{Event}
-use Rattle.chat_model.specs.declared.event.Event.TheVariants.{Restart, Asked, MailTurn}
-use Rattle.chat_model.specs.declared.request.Request.TheVariants.{AddUser, AddGroup, Member, AddChannel, Subscribe, Send}
+use Rattle.chat_model.specs.declared.ids.ChannelId.{ChannelId}
 use Rattle.chat_model.specs.declared.ids.UserId.{UserId}
 use Rattle.chat_model.specs.declared.trigger.Way.{Way}
 use Rattle.chat_model.specs.declared.trigger.Way.TheVariants.{Mail, Push}
 use Rattle.chat_model.specs.declared.trigger.Trigger.{Trigger}
-use Rattle.notice_ledger.specs.Past.Journal.{Occurrence, occurrence}
-use Rattle.notice_ledger.specs.Past.Values.{numbered, SentMessage, sent_by, message_of, messages, users, makes_deal, deal_count}
-use Rattle.notice_ledger.specs.Past.Triggers.{trigger}
+use Rattle.notice_ledger.specs.Past.Journal.{Occurrence, occurrence, occurrences, occurrences_after}
+use Rattle.notice_ledger.specs.Past.Values.{numbered, SentMessage, Sending, sending_of, sent_by, message_of, messages, users, makes_deal, deal_count, is_to_topic, is_participant}
+use Rattle.notice_ledger.specs.Past.Triggers.{trigger, came_by}
 use Rattle.notice_ledger.specs.Past.Owed.{Notice, notice_of, owed_of, owed_by, notices, turn, waiting}
 use Rattle.notice_ledger.proofs.Lists.{AllByRecursion-append, AllByRecursion-weaker, AllByRecursion-filter_map, AllByRecursion-flat_map, by_appending}
 use Rattle.notice_ledger.proofs.Appended.{notices-nil, notices-append, messages-nil, messages-append, deal_count-nil, deal_count-append}
@@ -51,6 +50,7 @@ notice_from : (o : Occurrence) (m : SentMessage) (u : UserId) (w : Way) (t : Opt
   way = w;
   message = m;
   trigger = t;
+  via = came_by o.past m.text u t;
   deal = record { 0 = deal_count o.past };
   owing = o;
 } in n) t ≡ Some n → HasMessage o m n
@@ -61,7 +61,7 @@ notice_from o m u w (Some t) n e =
 
 owed_of-each : (o : Occurrence) (m : SentMessage) → AllByRecursion (HasMessage o m) (owed_of o m)
 owed_of-each o m = AllByRecursion-flat_map (HasMessage o m) (λ u. filter_map (notice_of o m u) (Mail ∷ Push ∷ [])) (λ u.
-    AllByRecursion-filter_map (HasMessage o m) (notice_of o m u) (λ w n e. notice_from o m u w (trigger m u w) n e) (Mail ∷ Push ∷ [])) (users o.past)
+    AllByRecursion-filter_map (HasMessage o m) (notice_of o m u) (λ w n e. notice_from o m u w (trigger o.past m m.text u w) n e) (Mail ∷ Push ∷ [])) (users o.past)
 
 owed_by-messages : (j : List Stamped) (s : Stamped) (m : Option SentMessage) → message_of (occurrence j s) ≡ m → AllByRecursion (IsOfMessage (j ++ s ∷ [])) (option_map_or (owed_of (occurrence j s)) m [])
 owed_by-messages j s None e = tt
@@ -83,14 +83,11 @@ unfolding waiting
 waiting-messages j = AllByRecursion-filter (IsOfMessage j) (λ n. is_none (turn j n)) (notices j) (notices-messages j)
 
 one_each : (past : List Stamped) (e : Event) → cond (makes_deal e) 1 0 ≡ length (option_to_list (sent_by past e))
-one_each past Restart = refl
-one_each past (Asked (AddUser name bot)) = refl
-one_each past (Asked (AddGroup name members)) = refl
-one_each past (Asked (Member group user on)) = refl
-one_each past (Asked (AddChannel name)) = refl
-one_each past (Asked (Subscribe user channel on)) = refl
-one_each past (Asked (Send sender channel topic text)) = refl
-one_each past (MailTurn user) = refl
+one_each past e = by (sending_of e)
+  where
+    by : (o : Option Sending) → cond (is_some o) 1 0 ≡ length (option_to_list (option_map (λ (s : Sending). let m : SentMessage = record { past = past; sender = s.sender; to = s.to; text = s.text } in m) o))
+    by None = refl
+    by (Some s) = refl
 
 -- each message makes a deal
 pub deal_count-messages : (j : List Stamped) → deal_count j ≡ length (messages j)
@@ -99,3 +96,20 @@ deal_count-messages = by_appending (λ j. deal_count j ≡ length (messages j)) 
     ∙ (ap (λ n. n + cond (makes_deal s.event) 1 0) h
     ∙ (ap (λ n. length (messages j) + n) (one_each j s.event)
     ∙ (sym (length-append (messages j) (option_to_list (message_of (occurrence j s)))) ∙ ap length (sym (messages-append j s))))))
+
+-- ---- who takes part in a topic
+
+any_given : (past : List Stamped) (o : Option Sending) (rest : List SentMessage) (u : UserId) (c : ChannelId) (topic : List ℕ) (more : Bool) → more ≡ list_any (λ (m : SentMessage). m.sender.0 == u.0 && is_to_topic c topic m.to) rest
+    → (option_map_or (λ (s : Sending). s.sender.0 == u.0 && is_to_topic c topic s.to) o false || more) ≡ list_any (λ (m : SentMessage). m.sender.0 == u.0 && is_to_topic c topic m.to) (cons_option (option_map (λ (s : Sending). let m : SentMessage = record { past = past; sender = s.sender; to = s.to; text = s.text } in m) o) rest)
+any_given past None rest u c topic more e = e
+any_given past (Some s) rest u c topic more e = ap (λ b. (s.sender.0 == u.0 && is_to_topic c topic s.to) || b) e
+
+some_sent_after : (past j : List Stamped) (u : UserId) (c : ChannelId) (topic : List ℕ) → list_any (λ s. option_map_or (λ m. m.sender.0 == u.0 && is_to_topic c topic m.to) (sending_of s.event) false) j ≡ list_any (λ m. m.sender.0 == u.0 && is_to_topic c topic m.to) (filter_map message_of (occurrences_after past j))
+some_sent_after past [] u c topic = refl
+some_sent_after past (s ∷ ss) u c topic =
+    any_given past (sending_of s.event) (filter_map message_of (occurrences_after (past ++ s ∷ []) ss)) u c topic (list_any (λ s. option_map_or (λ m. m.sender.0 == u.0 && is_to_topic c topic m.to) (sending_of s.event) false) ss) (some_sent_after (past ++ s ∷ []) ss u c topic)
+
+-- a participant is one whose send to the topic stands in the journal
+pub some_sent-participant : (j : List Stamped) (u : UserId) (c : ChannelId) (topic : List ℕ) → list_any (λ s. option_map_or (λ m. m.sender.0 == u.0 && is_to_topic c topic m.to) (sending_of s.event) false) j ≡ is_participant j u c topic
+unfolding is_participant messages occurrences
+some_sent-participant j u c topic = some_sent_after [] j u c topic

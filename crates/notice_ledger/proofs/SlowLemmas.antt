@@ -12,7 +12,7 @@ use Rattle.chat_model.specs.declared.trigger.Way.TheVariants.{Mail}
 use Rattle.notice_ledger.specs.declared.accounts.Account.{Account}
 use Rattle.notice_ledger.specs.declared.accounts.Account.TheVariants.{NotOwed, Flight, Held, Ready, Handed, Cancelled, LiveQueue}
 use Rattle.notice_ledger.specs.declared.owed.Owed.{Owed}
-use Rattle.notice_ledger.specs.Past.Owed.{is_of, notices, switch_on, waiting, account}
+use Rattle.notice_ledger.specs.Past.Owed.{is_of, notices, switch_on, account}
 use Rattle.notice_ledger.specs.Past.Due.{batch_rows}
 use Rattle.notice_ledger.specs.Past.Outbox.{by_message, mail_entry, mail_entries, outbox}
 use Rattle.notice_ledger.specs.Past.Audit.{same_account, owed_with, in_64_bits, counts_of}

@@ -1,18 +1,16 @@
 -- Turns that are found by going through the events, and what is found of batch rows and due moments.
-use Rattle.std.proofs.Common.{◌≡◌, ℕ, ◌+◌, ◌<◌, ◌≤◌, Bool, true, false, ◌&&◌, ◌==◌, cond, List, [], ◌∷◌, ◌++◌, length, take, drop, get_or, map, refl, sym, ap, ◌∙◌, arith}
+use Rattle.std.proofs.Common.{◌≡◌, ℕ, ◌+◌, ◌<◌, ◌≤◌, Bool, true, false, ◌&&◌, cond, List, [], ◌∷◌, ◌++◌, length, take, drop, get_or, map, refl, sym, ap, ◌∙◌, arith}
 use Rattle.std.specs.Prelude.{Option, Some, None, option_map, filter, find, is_none, nat_lt, slice_get, if◌then◌else◌}
 use Rattle.std.specs.Option.{option_map_or, option_or}
 use Rattle.std.specs.List.{filter_map, reduce, cons_option}
 use Rattle.std.proofs.lemmas.List.{append-nil, append_assoc, length-take-le, take-append-drop, take_all}
 use Rattle.std.proofs.lemmas.List.Folds.{find-append}
-use Rattle.std.proofs.lemmas.Bool.{lt-ltb}
 use Rattle.std.proofs.lemmas.List.Sums.{fold-append}
 use Rattle.std.proofs.lemmas.List.Elements.{filter_map-append}
 use Rattle.chat_model.specs.declared.event.Stamped.{Stamped}
 use Rattle.chat_model.specs.declared.ids.UserId.{UserId}
 use Rattle.chat_model.specs.declared.mentions.UserName.{UserName}
 use Rattle.chat_model.specs.declared.row.Cause.TheVariants.{SwitchedOff}
-use Rattle.notice_ledger.specs.declared.accounts.Account.{Account}
 use Rattle.notice_ledger.specs.declared.accounts.Account.TheVariants.{Ready, Handed, Cancelled}
 use Rattle.notice_ledger.specs.declared.owed.Owed.{Owed}
 use Rattle.notice_ledger.specs.declared.due.DueUser.{DueUser as FoundDue}
@@ -20,8 +18,8 @@ use Rattle.notice_ledger.specs.Past.Journal.{Occurrence, occurrence, occurrences
 use Rattle.notice_ledger.specs.Past.Values.{settings, user_names}
 use Rattle.notice_ledger.specs.Past.Audit.{same_account}
 use Rattle.notice_ledger.proofs.OwedLemmas.{ids-user_names}
-use Rattle.notice_ledger.specs.Past.Owed.{Notice, notices, turn, is_turn_of, switch_on, waiting, account_of}
-use Rattle.notice_ledger.specs.Past.Due.{DueUser, batch_rows, is_batch_row, due, due_user, first_due, sooner}
+use Rattle.notice_ledger.specs.Past.Owed.{Notice, notices, turn, is_turn_of, switch_on, waiting}
+use Rattle.notice_ledger.specs.Past.Due.{DueUser, batch_rows, due, due_user, first_due, sooner}
 use Rattle.notice_ledger.specs.Plain.{owed_kept, turn_kept, account_kept, is_batch_kept, found_due}
 use Rattle.notice_ledger.proofs.Lists.{find-filter, first_of, take_next}
 use Rattle.notice_ledger.proofs.Appended.{first_behind-append}

@@ -13,7 +13,7 @@ use Rattle.chat_model.specs.declared.trigger.Way.TheVariants.{Mail, Push}
 use Rattle.chat_model.specs.declared.trigger.Trigger.{Trigger}
 use Rattle.notice_ledger.specs.Past.Journal.{Occurrence, occurrence, first_behind}
 use Rattle.notice_ledger.specs.Past.Values.{SentMessage, message_of, messages, users, deal_count}
-use Rattle.notice_ledger.specs.Past.Triggers.{trigger}
+use Rattle.notice_ledger.specs.Past.Triggers.{trigger, came_by}
 use Rattle.notice_ledger.specs.Past.Owed.{Notice, notice_of, owed_of, owed_by, notices, turn, is_turn_of, waiting}
 use Rattle.notice_ledger.proofs.Lists.{AllByRecursion-append, AllByRecursion-weaker, AllByRecursion-filter_map, AllByRecursion-flat_map, by_appending, filter_same_where, filter_all_where, filter-filter}
 use Rattle.notice_ledger.proofs.Appended.{notices-nil, notices-append, first_behind-nil, first_behind-append}
@@ -29,6 +29,7 @@ notice_from : (o : Occurrence) (m : SentMessage) (u : UserId) (w : Way) (t : Opt
   way = w;
   message = m;
   trigger = t;
+  via = came_by o.past m.text u t;
   deal = record { 0 = deal_count o.past };
   owing = o;
 } in n) t ≡ Some n → IsOwedBy o n
@@ -42,7 +43,7 @@ owed_by-each o =
     elim (message_of o) as (λ m. AllByRecursion (IsOwedBy o) (option_map_or (owed_of o) m [])) [
       | None ↦ tt
       | Some m ↦ AllByRecursion-flat_map (IsOwedBy o) (λ u. filter_map (notice_of o m u) (Mail ∷ Push ∷ [])) (λ u.
-          AllByRecursion-filter_map (IsOwedBy o) (notice_of o m u) (λ w n e. notice_from o m u w (trigger m u w) n e) (Mail ∷ Push ∷ [])) (users o.past)
+          AllByRecursion-filter_map (IsOwedBy o) (notice_of o m u) (λ w n e. notice_from o m u w (trigger o.past m m.text u w) n e) (Mail ∷ Push ∷ [])) (users o.past)
     ]
 
 -- each notice's event stands in the journal

@@ -1,14 +1,15 @@
 //! When mails are due, and where an owed notice stands, by looking through the whole list of events.
 ghost use Rattle.std.specs.Prelude.{◌≡◌, ◌+◌, ◌<◌, ◌^◌, ◌&&◌, nat_lt, slice_get, map, filter, is_none, option_map, IfOk, if◌then◌else◌};
 ghost use Rattle.std.specs.Option.{option_map_or};
-ghost use Rattle.notice_ledger.specs.Past.Owed.{is_mail_turn_of, is_turn_of, switch_on};
+ghost use Rattle.notice_ledger.specs.Past.Owed.{is_mail_turn_of, is_turn_of, switch_on, turn_switch};
 ghost use Rattle.notice_ledger.specs.Past.Due.{batch_rows, due, first_due, sooner};
 ghost use Rattle.notice_ledger.specs.Plain.{account_kept, found_due, is_batch_kept, owed_kept, turn_kept};
 
 use crate::Account;
-use crate::owed::{Owed, mention_switch, notices};
-use crate::values::{settings, user_names};
-use chat_model::{Cause, Event, OutOfMemory, Stamped, UserId, Way};
+use crate::owed::{Owed, notices};
+use crate::settings::settings;
+use crate::values::user_names;
+use chat_model::{Cause, Event, OutOfMemory, Settings, Stamped, UserId, Way};
 use std::alloc::Global;
 
 /// A user with a due moment, in seconds since 1970-01-01T00:00:00Z.
@@ -37,11 +38,21 @@ fn is_turn_of(user: UserId, way: Way, event: &Event) -> bool
     }
 }
 
-/// Whether the user's switch for the way is on.
+/// The switch that a turn of the way looks at.
+fn turn_switch(way: Way, settings: &Settings) -> bool
+    ensures { result ≡ turn_switch way settings.now }
+{
+    match way {
+        Way::Mail => settings.mail_mentions,
+        Way::Push => settings.push_mentions || settings.push_online,
+    }
+}
+
+/// Whether the user's switch for a turn of the way is on.
 pub fn is_switch_on(past: &[Stamped], user: UserId, way: Way) -> bool
     ensures { result ≡ switch_on past.now user way }
 {
-    mention_switch(way, &settings(past, user))
+    turn_switch(way, &settings(past, user))
 }
 
 /// Where a notice stands that has its turn behind these events.

@@ -1,37 +1,15 @@
 //! Which events of any list are lawful, by looking through the whole list for each.
 ghost use Rattle.std.specs.Prelude.{◌≡◌, ◌&&◌, ◌++◌, [], ◌∷◌, Bool, List, true, false, nat_le, option_map, IfOk, if◌then◌else◌};
-ghost use Rattle.notice_ledger.specs.InOrder.{is_ascending, is_in_order};
 ghost use Rattle.notice_ledger.specs.Past.Journal.{last_stamp};
 ghost use Rattle.notice_ledger.specs.Past.Lawful.{is_lawful_after, may_stand};
 ghost use Rattle.notice_ledger.specs.Lawful.{lawful};
 ghost use Rattle.notice_ledger.specs.Plain.{found_due, is_next_turn};
 
 use crate::due::{DueUser, first_due};
+use crate::order::is_in_order;
 use crate::refused::refusal;
-use chat_model::{Event, Moment, OutOfMemory, Request, Stamped, UserId};
+use chat_model::{Event, Moment, OutOfMemory, Stamped, UserId};
 use std::alloc::Global;
-
-/// Whether the users ascend, and so stand once each.
-fn is_ascending(users: &[UserId]) -> bool
-    ensures { result ≡ is_ascending users.now }
-{
-    for i in 1..users.len() {
-        if users[i].0 <= users[i - 1].0 {
-            return false;
-        }
-    }
-    true
-}
-
-/// Whether the lists of the request ascend.
-fn is_in_order(request: &Request) -> bool
-    ensures { result ≡ is_in_order request.now }
-{
-    match request {
-        Request::AddGroup { members, .. } => is_ascending(members.as_slice()),
-        _ => true,
-    }
-}
 
 /// Whether it is the user's turn at the stamp.
 fn is_next_turn(first: Option<DueUser>, user: UserId, at: Moment) -> bool

@@ -6,13 +6,17 @@
 #![tactic(auto)]
 
 mod accounts;
+mod destination;
 mod due;
+mod facts;
 mod kept;
 mod laws;
+mod messages;
 mod order;
 mod owed;
 mod refused;
 mod rules;
+mod settings;
 mod slow;
 #[cfg(test)]
 mod slow_tests;
@@ -21,7 +25,8 @@ mod tests;
 mod values;
 
 pub use accounts::Account;
+pub use destination::Destination;
 pub use laws::{refusal_is_least, rows_are_listed, rows_ascend, rules_ascend};
-pub use order::in_order;
+pub use order::{in_order, is_in_order};
 pub use rules::{is_bad_name, is_blank, is_longer_than};
 pub use slow::{account, audit};

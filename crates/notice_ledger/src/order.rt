@@ -1,8 +1,8 @@
 //! The order of a request's lists.
 ghost use Rattle.std.specs.Prelude.{◌≡◌};
-ghost use Rattle.notice_ledger.specs.InOrder.{in_order};
+ghost use Rattle.notice_ledger.specs.InOrder.{in_order, is_ascending, is_in_order};
 
-use chat_model::{Request, ascending_users};
+use chat_model::{Request, UserId, ascending_users};
 
 /// The request with its lists ascending, once each, as its event keeps them. It takes no memory.
 pub fn in_order(request: Request) -> Request
@@ -13,6 +13,34 @@ pub fn in_order(request: Request) -> Request
             name,
             members: ascending_users(members),
         },
+        Request::Direct { sender, to, text } => Request::Direct {
+            sender,
+            to: ascending_users(to),
+            text,
+        },
         other => other,
+    }
+}
+
+/// Whether the users ascend, and so stand once each.
+fn is_ascending(users: &[UserId]) -> bool
+    ensures { result ≡ is_ascending users.now }
+{
+    for i in 1..users.len() {
+        if users[i].0 <= users[i - 1].0 {
+            return false;
+        }
+    }
+    true
+}
+
+/// Whether the lists of the request ascend, each item once. It takes no memory.
+pub fn is_in_order(request: &Request) -> bool
+    ensures { result ≡ is_in_order request.now }
+{
+    match request {
+        Request::AddGroup { members, .. } => is_ascending(members.as_slice()),
+        Request::Direct { to, .. } => is_ascending(to.as_slice()),
+        _ => true,
     }
 }

@@ -1,5 +1,8 @@
 //! Why a request is refused, by looking through the whole list of events.
 ghost use Rattle.std.specs.Prelude.{◌≡◌, Bool};
+ghost use Rattle.chat_model.specs.declared.policy.Policy.{Policy};
+ghost use Rattle.chat_model.specs.declared.policy.SpecificChange.{SpecificChange};
+ghost use Rattle.chat_model.specs.declared.settings.SettingChange.{SettingChange};
 ghost use Rattle.std.specs.List.{list_all};
 ghost use Rattle.notice_ledger.specs.Limits.{longest_name, longest_text, longest_topic, most_items};
 ghost use Rattle.notice_ledger.specs.Past.Values.{is_user};
@@ -127,6 +130,78 @@ fn send_refusal(
     }
 }
 
+#[tactic(auto, unfolding(crate::specs::Past::Refusals::refusal))]
+fn setting_refusal(past: &[Stamped], user: UserId) -> Option<Refusal>
+    ensures { (change : SettingChange) → result ≡ refusal past.now (Request.Set user change) }
+{
+    if !is_user(past, user) {
+        Some(Refusal::NoUser)
+    } else {
+        None
+    }
+}
+
+#[tactic(auto, unfolding(crate::specs::Past::Refusals::refusal))]
+fn specific_refusal(past: &[Stamped], user: UserId, channel: ChannelId) -> Option<Refusal>
+    ensures { (change : SpecificChange) → result ≡ refusal past.now (Request.SetChannel user channel change) }
+{
+    if !is_user(past, user) {
+        Some(Refusal::NoUser)
+    } else if !is_channel(past, channel) {
+        Some(Refusal::NoChannel)
+    } else {
+        None
+    }
+}
+
+#[tactic(auto, unfolding(crate::specs::Past::Refusals::refusal))]
+fn policy_refusal(
+    past: &[Stamped],
+    user: UserId,
+    channel: ChannelId,
+    topic: &str,
+) -> Option<Refusal>
+    ensures { (policy : Policy) → result ≡ refusal past.now (Request.SetPolicy user channel topic.now policy) }
+{
+    if !is_user(past, user) {
+        Some(Refusal::NoUser)
+    } else if !is_channel(past, channel) {
+        Some(Refusal::NoChannel)
+    } else if is_longer_than(topic, LONGEST_TOPIC) {
+        Some(Refusal::TopicTooLong)
+    } else {
+        None
+    }
+}
+
+#[tactic(auto, unfolding(crate::specs::Past::Refusals::refusal))]
+fn mute_refusal(past: &[Stamped], user: UserId, other: UserId) -> Option<Refusal>
+    ensures { (on : Bool) → result ≡ refusal past.now (Request.Mute user other on) }
+{
+    if is_user(past, user) && is_user(past, other) {
+        None
+    } else {
+        Some(Refusal::NoUser)
+    }
+}
+
+#[tactic(auto, unfolding(crate::specs::Past::Refusals::refusal))]
+fn direct_refusal(past: &[Stamped], sender: UserId, to: &[UserId], text: &str) -> Option<Refusal>
+    ensures { result ≡ refusal past.now (Request.Direct sender to.now text.now) }
+{
+    if !(is_user(past, sender) && are_users(past, to)) {
+        Some(Refusal::NoUser)
+    } else if is_blank(text) {
+        Some(Refusal::EmptyText)
+    } else if is_longer_than(text, LONGEST_TEXT) {
+        Some(Refusal::TextTooLong)
+    } else if to.len() > MOST_ITEMS {
+        Some(TOO_MANY)
+    } else {
+        None
+    }
+}
+
 /// Why the request is refused: the first refusal, by its number, whose rule is broken.
 #[tactic(auto, unfolding(crate::specs::Past::Refusals::refusal))]
 pub fn refusal(past: &[Stamped], request: &Request) -> Option<Refusal>
@@ -140,11 +215,23 @@ pub fn refusal(past: &[Stamped], request: &Request) -> Option<Refusal>
         Request::Member { group, user, .. } => member_refusal(past, *group, *user),
         Request::AddChannel { name } => channel_refusal(past, name.as_str()),
         Request::Subscribe { user, channel, .. } => { subscription_refusal(past, *user, *channel) }
+        Request::Set { user, .. } => setting_refusal(past, *user),
+        Request::SetChannel { user, channel, .. } => specific_refusal(past, *user, *channel),
+        Request::SetPolicy {
+            user,
+            channel,
+            topic,
+            ..
+        } => policy_refusal(past, *user, *channel, topic.as_str()),
+        Request::Mute { user, other, .. } => mute_refusal(past, *user, *other),
         Request::Send {
             sender,
             channel,
             topic,
             text,
         } => send_refusal(past, *sender, *channel, topic.as_str(), text.as_str()),
+        Request::Direct { sender, to, text } => {
+            direct_refusal(past, *sender, to.as_slice(), text.as_str())
+        }
     }
 }

@@ -4,11 +4,10 @@ ghost use Rattle.std.specs.List.{list_any};
 ghost use Rattle.std.specs.Option.{option_copied, option_map_or};
 ghost use Rattle.std.specs.Str.{str_eq_ignore_ascii_case};
 ghost use Rattle.notice_ledger.specs.Past.Refusals.{is_taken};
-ghost use Rattle.notice_ledger.specs.Past.Values.{channel_of, channels, group_names, group_of, groups, is_channel, is_group, is_member, is_one_of, is_user, membership_change, people, person_of, settings, subscribed, subscriber_count, subscription_change, user_names};
+ghost use Rattle.notice_ledger.specs.Past.Values.{channel_of, channels, group_names, group_of, groups, is_channel, is_group, is_member, is_one_of, is_user, membership_change, people, person_of, subscribed, subscriber_count, subscription_change, user_names};
 
 use chat_model::{
-    ChannelId, Event, GroupId, GroupName, OutOfMemory, Request, Settings, Stamped, Text, UserId,
-    UserName,
+    ChannelId, Event, GroupId, GroupName, OutOfMemory, Request, Stamped, Text, UserId, UserName,
 };
 use std::alloc::Global;
 
@@ -312,11 +311,4 @@ pub fn subscriber_count(past: &[Stamped], channel: ChannelId) -> usize
         }
     }
     count
-}
-
-/// The user's settings.
-pub fn settings(past: &[Stamped], user: UserId) -> Settings
-    ensures { result ≡ settings past.now user }
-{
-    Settings::default()
 }

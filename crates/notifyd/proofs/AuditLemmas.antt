@@ -1,20 +1,11 @@
 -- A run of `audit`, from how the audit came out.
-use Rattle.std.proofs.Common.{◌≡◌, ℕ, ◌+◌, ◌≤◌, List, Option, refl, sym, ap, ◌∙◌, arith, inl, inr, ◌⊎◌}
-use Rattle.std.specs.Prelude.{IfSome}
-use Rattle.chat_model.specs.Counts.{HasRisen}
-use Rattle.chat_model.specs.declared.counts.Counts.{Counts}
-use Rattle.chat_model.specs.declared.row.Row.{Row}
-use Rattle.keeper.specs.declared.keeper.Kept.{Kept}
-use Rattle.office.specs.declared.answer.StartFault.{StartFault}
+use Rattle.std.proofs.Common.{◌≡◌, ℕ, List, Option, refl, ◌∙◌, arith, inl, inr, ◌⊎◌}
 use Rattle.office.specs.declared.answer.StartFault.TheVariants as start
-use Rattle.office.specs.Faults.{faults_in_start}
-use Rattle.office.specs.Office.{HasDisagreed}
 use Rattle.notifyd.specs.declared.ending.Ending.{Ending}
 use Rattle.notifyd.specs.declared.ending.Ending.TheVariants.{Audited, NotStarted}
-use Rattle.notifyd.specs.Ending.{last_text, nothing_met, status_of}
-use Rattle.notifyd.specs.Status.{status_number, KeptDiffers}
-use Rattle.notifyd.specs.Sink.{WritesFront}
-use Rattle.notifyd.specs.Run.{Devices, devices, Wrote, HasCounted, IsUnstarted, CameOut, Tells, AuditedAs, HasCause, NoneFailed, KeepsWell}
+use Rattle.notifyd.specs.Ending.{nothing_met}
+use Rattle.notifyd.specs.Status.{KeptDiffers}
+use Rattle.notifyd.specs.Run.{Devices, CameOut, Tells, AuditedAs, HasCause, NoneFailed, KeepsWell}
 use Rattle.notifyd.proofs.CauseLemmas.{unstarted_cause, one_status, sink_cause}
 use Rattle.notifyd.proofs.KeptLemmas.{kept_differ, not_consistent, not_differing}
 use Rattle.notifyd.proofs.RunLemmas.{StandsStill, still_same}

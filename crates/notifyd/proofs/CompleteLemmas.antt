@@ -1,5 +1,5 @@
 -- A run over a script that can be read, at which nothing fails.
-use Rattle.std.proofs.Common.{◌≡◌, ℕ, ◌+◌, ◌-◌, ◌<◌, ◌≤◌, Bool, true, false, cond, List, [], ◌∷◌, ◌++◌, length, drop, zero, suc, Option, Some, None, Result, refl, sym, ap, ◌∙◌, subst, append_assoc, length-append, take-append-drop, arith, inl, inr, ◌⊎◌, ◌||◌}
+use Rattle.std.proofs.Common.{◌≡◌, ℕ, ◌+◌, ◌-◌, ◌≤◌, Bool, true, false, cond, List, [], ◌∷◌, ◌++◌, length, drop, zero, suc, Option, Some, None, Result, refl, sym, ap, ◌∙◌, subst, append_assoc, length-append, take-append-drop, arith, inl, inr, ◌⊎◌, ◌||◌}
 use Rattle.std.specs.Prelude.{slice_get, IfSome, IsOk, count_by}
 use Rattle.std.specs.List.{AllByRecursion, list_any}
 use Rattle.std.proofs.lemmas.List.{append-nil}

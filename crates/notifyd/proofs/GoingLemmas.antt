@@ -14,7 +14,7 @@ use Rattle.notifyd.specs.Grammar.{reading}
 use Rattle.notifyd.specs.World.{World}
 use Rattle.notifyd.specs.Play.{PlaysLine, PlaysLines, HaveRisen, answer_text, is_keeper_fault, is_out_of_memory}
 use Rattle.notifyd.specs.Run.{Wrote}
-use Rattle.notifyd.specs.Going.{Standing, Plays, Answers, FailsToAnswer, ComesToBadLine, EndsAmong, HaveCounted}
+use Rattle.notifyd.specs.Going.{Standing, Plays, Answers, FailsToAnswer, ComesToBadLine, EndsAmong, IsLater}
 
 PlaysLines-then : (a : World) (xs : List (List ℕ)) (rs : List (Option Reply)) (b : World) (ys : List (List ℕ)) (qs : List (Option Reply)) (c : World) → PlaysLines a xs rs b → PlaysLines b ys qs c → PlaysLines a (xs ++ ys) (rs ++ qs) c
 PlaysLines-then a [] [] b ys qs c p q = let P : World → Type 0 = λ w. PlaysLines w ys qs c in subst P p q
@@ -55,6 +55,7 @@ Plays-none s = record {
   risen = omega arith;
   most = omega arith;
   sink = omega arith;
+  same_sink = refl;
 }
 
 pub Plays-then : (a b c : Standing) (xs ys : List (List ℕ)) (rs qs : List (Option Reply)) → Plays a xs rs b → Plays b ys qs c → Plays a (xs ++ ys) (rs ++ qs) c
@@ -72,6 +73,7 @@ Plays-then a b c xs ys rs qs p q =
       risen = subst P (sym many) (risen_then _ _ _ _ _ p.risen q.risen);
       most = subst Q (sym many) (most_then _ _ _ _ _ p.most q.most);
       sink = omega (arith, p.sink, q.sink);
+      same_sink = q.same_sink ∙ p.same_sink;
     }
   where
     risen_then : (m n a b c : ℕ) → HaveRisen m a b → HaveRisen n b c → HaveRisen (m + n) a c
@@ -91,6 +93,7 @@ pub record PlaysOne (a : Standing) (bytes : List ℕ) (reply : Option Reply) (b 
   pub risen : is_keeper_fault reply ≡ true → HasRisen a.keeper_faults b.keeper_faults
   pub most : b.keeper_faults ≤ a.keeper_faults + cond (is_keeper_fault reply) 1 0
   pub sink : a.sink_faults ≤ b.sink_faults
+  pub same_sink : b.sink ≡ a.sink
 
 -- a fault at the one reply is counted
 risen_one : (r : Option Reply) (a b : ℕ) → a ≤ b → (is_keeper_fault r ≡ true → HasRisen a b) → HaveRisen (count_by is_keeper_fault (r ∷ [])) a b
@@ -118,6 +121,7 @@ Plays-one a b bytes reply p = record {
   risen = risen_one reply a.keeper_faults b.keeper_faults p.counted p.risen;
   most = most_one reply a.keeper_faults b.keeper_faults p.most;
   sink = p.sink;
+  same_sink = p.same_sink;
 }
 
 -- no line is answered by nothing
@@ -165,13 +169,14 @@ ComesToBadLine-one a bytes number column unread counted = record {
   answers = Answers-none a;
 }
 
-pub HaveCounted-same : (a : Standing) → HaveCounted a a
-HaveCounted-same a = record { keeper = omega arith; sink = omega arith }
+pub IsLater-same : (a : Standing) → IsLater a a
+IsLater-same a = record { keeper = omega arith; sink = omega arith; same_sink = refl }
 
-pub HaveCounted-then : (a b c : Standing) (xs : List (List ℕ)) → Answers a xs b → HaveCounted b c → HaveCounted a c
-HaveCounted-then a b c xs p q = record {
+pub IsLater-then : (a b c : Standing) (xs : List (List ℕ)) → Answers a xs b → IsLater b c → IsLater a c
+IsLater-then a b c xs p q = record {
   keeper = omega (arith, p.plays.counted, q.keeper);
   sink = omega (arith, p.plays.sink, q.sink);
+  same_sink = q.same_sink ∙ p.plays.same_sink;
 }
 
 ComesToBadLine-then : (a b c : Standing) (xs ys : List (List ℕ)) (number column : ℕ) → Answers a xs b → ComesToBadLine number column b ys c → ComesToBadLine number column a (xs ++ ys) c
@@ -202,6 +207,10 @@ FailsToAnswer-then a b c xs ys p q =
           ∙ ap (λ text. option_map (λ done. done ++ text) a.written) (sym (append_assoc (flat_map answer_text p.replies) (flat_map answer_text q.answered) (take q.front (answer_text q.reply))) ∙ ap (λ text. text ++ take q.front (answer_text q.reply)) (sym (flat_map-append answer_text p.replies q.answered)));
       cause = omega (arith, p.plays.sink, q.cause);
     }
+
+-- lines that are answered leave the play on its sink
+pub IsLater-answered : (a b : Standing) (xs : List (List ℕ)) → Answers a xs b → IsLater a b
+IsLater-answered a b xs p = record { keeper = p.plays.counted; sink = p.plays.sink; same_sink = p.plays.same_sink }
 
 -- a line ends the play behind lines that are answered
 pub EndsAmong-then : (ending : Ending) (a b c : Standing) (xs ys : List (List ℕ)) → Answers a xs b → EndsAmong ending b ys c → EndsAmong ending a (xs ++ ys) c

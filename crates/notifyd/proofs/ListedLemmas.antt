@@ -1,7 +1,8 @@
 -- The numbers between the commas of a word.
-use Rattle.std.proofs.Common.{◌≡◌, ℕ, Bool, true, false, cond, ◌&&◌, List, [], ◌∷◌, map, Option, Some, None, is_some, refl, ap, ◌∙◌, bytes_eq, codes}
+use Rattle.std.proofs.Common.{◌≡◌, ℕ, Bool, true, false, cond, ◌&&◌, List, [], ◌∷◌, map, Option, Some, None, is_some, refl, sym, ap, ◌∙◌, bytes_eq, codes}
 use Rattle.std.specs.Option.{option_map, unwrap_or}
 use Rattle.std.specs.List.{list_all, filter_map, cons_option}
+use Rattle.std.proofs.lemmas.Slice.Eq.{bytes_eq-Decides}
 use Rattle.chat_model.specs.declared.ids.UserId.{UserId}
 use Rattle.chat_model.specs.Number.{decimal_value, is_number, number_of}
 use Rattle.notifyd.specs.Field.{parts_of, numbers_of, list_of}
@@ -52,3 +53,15 @@ pub list_all-number_of : (parts : List (List ℕ)) → list_all (λ part. is_som
 list_all-number_of [] = refl
 list_all-number_of (part ∷ parts) =
     ap (λ t. t && list_all (λ p. is_some (number_of p)) parts) (is_some-number_of part) ∙ ap (λ t. is_number part && t) (list_all-number_of parts)
+
+-- `-` is a list of no number, and else a list has at least one
+no_numbers : numbers_of (codes "-") ≡ None
+unfolding numbers_of
+no_numbers = refl
+
+pub numbers_of-dash : (word : List ℕ) → bytes_eq word (codes "-") ≡ true → None ≡ numbers_of word
+numbers_of-dash word dash = sym (ap numbers_of ((bytes_eq-Decides word (codes "-")).0 dash) ∙ no_numbers)
+
+pub list_of-other : (word : List ℕ) → bytes_eq word (codes "-") ≡ false → list_of word ≡ numbers_of word
+unfolding list_of
+list_of-other word other = rw other refl

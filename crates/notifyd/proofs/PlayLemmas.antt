@@ -18,11 +18,10 @@ use Rattle.office.specs.declared.answer.AskFault.{AskFault}
 use Rattle.office.specs.declared.answer.AskFault.TheVariants.{Refused}
 use Rattle.office.specs.Office.{answer_of, KeptStandsFor}
 use Rattle.keeper.specs.declared.keeper.Kept.{Kept}
-use Rattle.notifyd.specs.declared.ending.Met.{Met}
 use Rattle.presence_queues.specs.Hub.{HubSeen}
 use Rattle.notifyd.specs.declared.line.Line.TheVariants as line
 use Rattle.notifyd.specs.declared.reply.Reply.TheVariants as reply
-use Rattle.notifyd.specs.World.{World, world, started, fresh_hub}
+use Rattle.notifyd.specs.World.{world, started, fresh_hub}
 use Rattle.notifyd.specs.Ending.{nothing_met}
 use Rattle.notifyd.specs.Playing.{Playing}
 use Rattle.notifyd.specs.Going.{HasBegun}
@@ -66,13 +65,15 @@ world-started kept after hub clock is made clocked =
     let journal = kept ++ record { at = stamp kept 0; event = event.Restart } ∷ [] in
     ap (λ h. world after h clock) made ∙ ap (λ j. world j (fresh_hub j) clock) is ∙ ap (λ c. world journal (fresh_hub journal) c) (clocked ∙ ap last_stamp is ∙ last-started kept)
 
-abbrev fresh : {K : Type 0} → World → Met → List ℕ → K → Playing K
-fresh w met line keeper = record { world = w; met = met; number = 0; taken = 0; under_way = line; keeper = keeper }
-
 -- a play that begins in the world of an office that was started
-pub has_begun : {K : Type 0} (kept : Option Kept) (j : List Stamped) (w : World) (met : Met) (line : List ℕ) (keeper : K) → IfSome kept (KeptStandsFor j) → w ≡ started j → met ≡ nothing_met → line ≡ [] → HasBegun kept (fresh w met line keeper)
-has_begun kept j w met line keeper stood a b c = record {
+pub has_begun : (kept : Option Kept) (j : List Stamped) (play : Playing) → IfSome kept (KeptStandsFor j) → play.world ≡ started j → play.met ≡ nothing_met → play.number ≡ 0 → play.taken ≡ 0 → play.under_way ≡ [] → HasBegun kept play
+has_begun kept j play stood a b c d e = record {
   journal = j;
   stood = stood;
-  is = ap (λ x. fresh x met line keeper) a ∙ ap (λ x. fresh (started j) x line keeper) b ∙ ap (λ x. fresh (started j) nothing_met x keeper) c;
+  is =
+      ap (λ x. record play { world = x }) a
+      ∙ ap (λ x. record play { world = started j; met = x }) b
+      ∙ ap (λ x. record play { world = started j; met = nothing_met; number = x }) c
+      ∙ ap (λ x. record play { world = started j; met = nothing_met; number = 0; taken = x }) d
+      ∙ ap (λ x. record play { world = started j; met = nothing_met; number = 0; taken = 0; under_way = x }) e;
 }

@@ -13,7 +13,6 @@ use Rattle.notice_ledger.specs.Rows.{rows}
 use Rattle.notifyd.specs.declared.reply.Reply.{Reply}
 use Rattle.notifyd.specs.declared.ending.Ending.{Ending}
 use Rattle.notifyd.specs.declared.ending.Ending.TheVariants.{InputEnded, BadLine, SourceFault, TooLong, SinkFault, NotStarted, Audited}
-use Rattle.notifyd.specs.declared.ending.Ended.{Ended}
 use Rattle.notifyd.specs.declared.ending.Met.{Met}
 use Rattle.notifyd.specs.Cut.{IsBadLine, cut_of, all_lines, last_line, allowed, max_script}
 use Rattle.notifyd.specs.World.{World, started}
@@ -21,7 +20,7 @@ use Rattle.notifyd.specs.Play.{PlaysLines, answer_text, is_keeper_fault, is_out_
 use Rattle.notifyd.specs.Ending.{last_text}
 use Rattle.notifyd.specs.Status.{KeptIsConsistent, KeptIsConserved}
 use Rattle.notifyd.specs.Run.{Devices, devices, Gave, IsAtEnd, Wrote, AreFirst, IsCourse, IsWithin, EndsAs, PlayedAs, IsUnstarted, PlayedUnwritten, SinkFailed, WentAs, RanAs, Tells}
-use Rattle.notifyd.specs.Playing.{Playing}
+use Rattle.notifyd.specs.Playing.{Playing, Played}
 use Rattle.notifyd.specs.Going.{Standing, HasBegun, standing, left_standing, Plays, Answers, FailsToAnswer, ComesToBadLine, EndsReading, EndedReading, source_seen}
 use Rattle.notifyd.proofs.CutLemmas.{allowed-within, AreFirst-complete, AreFirst-all}
 use Rattle.notifyd.proofs.GoingLemmas.{Wrote-none, Wrote-then, EndsAmong-more}
@@ -178,17 +177,18 @@ went_reading (NotStarted why) before now a b taken met fresh last gave p = elim 
 went_reading (Audited counts) before now a b taken met fresh last gave p = elim p [ inl h ↦ absurd h | inr h ↦ absurd h.2 ]
 
 -- how a play went, from its start and its end
-pub went_from : {K : Type 0} (kept : K → Option Kept) (faults : K → ℕ) (keeper : K) (play : Playing K) (ended : Ended K) (input now_input written now_written : Option (List ℕ)) (source_faults now_source_faults sink_faults now_sink_faults : ℕ)
-    → HasBegun (kept keeper) play
-    → is_some (kept play.keeper) ≡ is_some (kept keeper)
-    → faults play.keeper ≡ faults keeper
-    → EndedReading kept faults (standing kept faults play written sink_faults) play.under_way play.taken (source_seen input now_input source_faults now_source_faults) ended now_written now_sink_faults
-    → WentAs ended.ending [] ended.met (devices input written (kept keeper) source_faults sink_faults (faults keeper)) (devices now_input now_written (kept ended.keeper) now_source_faults now_sink_faults (faults ended.keeper))
-went_from {K} kept faults keeper play ended input now_input written now_written source_faults now_source_faults sink_faults now_sink_faults begins tells same p =
-    let P : Playing K → Type 0 = λ it. EndedReading kept faults (standing kept faults it written sink_faults) it.under_way it.taken (source_seen input now_input source_faults now_source_faults) ended now_written now_sink_faults in
+pub went_from : (kept : Option Kept) (play : Playing) (ended : Played) (input now_input written : Option (List ℕ)) (source_faults now_source_faults sink_faults keeper_faults : ℕ)
+    → HasBegun kept play
+    → is_some play.kept ≡ is_some kept
+    → play.keeper_faults ≡ keeper_faults
+    → (play.written ≡ written) × (play.sink_faults ≡ sink_faults)
+    → EndedReading (standing play) play.under_way play.taken (source_seen input now_input source_faults now_source_faults) ended
+    → WentAs ended.ending [] ended.met (devices input written kept source_faults sink_faults keeper_faults) (devices now_input ended.written ended.kept now_source_faults ended.sink_faults ended.keeper_faults)
+went_from kept play ended input now_input written source_faults now_source_faults sink_faults keeper_faults begins tells same unwritten p =
+    let P : Playing → Type 0 = λ it. EndedReading (standing it) it.under_way it.taken (source_seen input now_input source_faults now_source_faults) ended in
     let q = subst P begins.is p in
-    went_reading ended.ending _ _ _ (left_standing kept faults ended q.left.world q.left.number now_written now_sink_faults) q.bytes ended.met
-    (record { journal = begins.journal; stood = begins.stood; world = refl; keeper_fault = refl; out_of_memory = refl; number = refl; tells = tells; faults = same; written = refl; sink = refl })
+    went_reading ended.ending _ _ _ (left_standing ended q.left.world q.left.number) q.bytes ended.met
+    (record { journal = begins.journal; stood = begins.stood; world = refl; keeper_fault = refl; out_of_memory = refl; number = refl; tells = tells; faults = same; written = unwritten.0; sink = unwritten.1 })
     (record { all_met = refl; kept = refl; stands = q.left.stands; conserved = q.left.conserved; faults = refl; written = refl; sink = refl })
     q.gave q.ends
 

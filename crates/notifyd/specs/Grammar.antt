@@ -2,11 +2,12 @@
 use Rattle.std.specs.Prelude.{ℕ, ◌+◌, ◌-◌, ◌==◌, ◌&&◌, ◌||◌, Bool, true, false, IsTrue, List, length, take, slice_index, nat_lt, if◌then◌else◌, Result, Ok, Err, codes, bytes_eq}
 use Rattle.std.specs.List.{list_all}
 use Rattle.std.specs.Str.Lossy.{utf8_valid_len}
-use Rattle.chat_model.specs.declared.request.Request.TheVariants.{AddUser, AddGroup, Member, AddChannel, Subscribe, Send}
+use Rattle.chat_model.specs.declared.request.Request.TheVariants.{AddUser, AddGroup, Member, AddChannel, Subscribe, Set, SetChannel, SetPolicy, Mute, Send, Direct}
 use Rattle.chat_model.specs.Number.{number_of}
 use Rattle.notifyd.specs.declared.line.Line.{Line}
 use Rattle.notifyd.specs.declared.line.Line.TheVariants.{Nothing, At, Asked, Mail, Audit, Register, Beat, Ack, Leave, Sweep, Deal}
-use Rattle.notifyd.specs.Field.{column_of, is_space, field_start, word_end, word_at, word_field, moment_of, switch_of, queue_of, upto_of, list_of, string_field, line_end}
+use Rattle.notifyd.specs.Field.{column_of, is_space, field_start, word_end, word_at, word_field, moment_of, switch_of, queue_of, upto_of, list_of, numbers_of, string_field, line_end}
+use Rattle.notifyd.specs.Keys.{setting_key_of, setting_of, specific_key_of, specific_of, policy_of}
 use Rattle.notifyd.specs.Listed.{users_of}
 
 -- what a part of a line reads as, or the column at which the line is bad
@@ -29,6 +30,13 @@ user_line line place = do
   name ← string_field line place
   end ← line_end line name.1
   Ok (Asked (AddUser name.0 false))
+
+-- `bot STR`
+unfoldable pub bot_line : List ℕ → ℕ → Result Line ℕ
+bot_line line place = do
+  name ← string_field line place
+  end ← line_end line name.1
+  Ok (Asked (AddUser name.0 true))
 
 -- `group STR LISTE`: name, members
 unfoldable pub group_line : List ℕ → ℕ → Result Line ℕ
@@ -72,6 +80,53 @@ send_line line place = do
   text ← string_field line topic.1
   end ← line_end line text.1
   Ok (Asked (Send (record { 0 = sender.0 }) (record { 0 = channel.0 }) topic.0 text.0))
+
+-- `dm ID LIST STR`: sender, users, text
+unfoldable pub direct_line : List ℕ → ℕ → Result Line ℕ
+direct_line line place = do
+  sender ← word_field number_of line place
+  to ← word_field numbers_of line sender.1
+  text ← string_field line to.1
+  end ← line_end line text.1
+  Ok (Asked (Direct (record { 0 = sender.0 }) (users_of to.0) text.0))
+
+-- `set ID KEY BOOL`: user, switch, value
+unfoldable pub set_line : List ℕ → ℕ → Result Line ℕ
+set_line line place = do
+  user ← word_field number_of line place
+  key ← word_field setting_key_of line user.1
+  change ← word_field (setting_of key.0) line key.1
+  end ← line_end line change.1
+  Ok (Asked (Set (record { 0 = user.0 }) change.0))
+
+-- `chan ID ID muted BOOL`, `chan ID ID mail TRI` and so on: user, channel, setting, value
+unfoldable pub specific_line : List ℕ → ℕ → Result Line ℕ
+specific_line line place = do
+  user ← word_field number_of line place
+  channel ← word_field number_of line user.1
+  key ← word_field specific_key_of line channel.1
+  change ← word_field (specific_of key.0) line key.1
+  end ← line_end line change.1
+  Ok (Asked (SetChannel (record { 0 = user.0 }) (record { 0 = channel.0 }) change.0))
+
+-- `policy ID ID STR POLICY`: user, channel, topic, policy
+unfoldable pub policy_line : List ℕ → ℕ → Result Line ℕ
+policy_line line place = do
+  user ← word_field number_of line place
+  channel ← word_field number_of line user.1
+  topic ← string_field line channel.1
+  policy ← word_field policy_of line topic.1
+  end ← line_end line policy.1
+  Ok (Asked (SetPolicy (record { 0 = user.0 }) (record { 0 = channel.0 }) topic.0 policy.0))
+
+-- `mute ID ID BOOL`: user, other
+unfoldable pub mute_line : List ℕ → ℕ → Result Line ℕ
+mute_line line place = do
+  user ← word_field number_of line place
+  other ← word_field number_of line user.1
+  on ← word_field switch_of line other.1
+  end ← line_end line on.1
+  Ok (Asked (Mute (record { 0 = user.0 }) (record { 0 = other.0 }) on.0))
 
 -- `mail`
 unfoldable pub mail_line : List ℕ → ℕ → Result Line ℕ
@@ -153,19 +208,42 @@ step_reading line =
     else (if bytes_eq word (codes "audit") then audit_line line place
     else hub_reading line))
 
--- a line of fields: a request by its first word, which says which fields follow, or else another step
+-- a line by which a user sets something, or else one that is no request
+unfoldable pub preference_reading : List ℕ → Result Line ℕ
+preference_reading line =
+    let start = field_start line 0 in
+    let word = word_at line start in
+    let place = word_end line start in
+    if bytes_eq word (codes "set") then set_line line place
+    else (if bytes_eq word (codes "chan") then specific_line line place
+    else (if bytes_eq word (codes "policy") then policy_line line place
+    else (if bytes_eq word (codes "mute") then mute_line line place
+    else step_reading line)))
+
+-- a line by which a message is sent, or else one that adds nothing
+unfoldable pub message_reading : List ℕ → Result Line ℕ
+message_reading line =
+    let start = field_start line 0 in
+    let word = word_at line start in
+    let place = word_end line start in
+    if bytes_eq word (codes "send") then send_line line place
+    else (if bytes_eq word (codes "dm") then direct_line line place
+    else preference_reading line)
+
+-- a line of fields: its first word says which fields follow. It is one of who is there and who belongs where, or else
+-- another one
 unfoldable pub fields_reading : List ℕ → Result Line ℕ
 fields_reading line =
     let start = field_start line 0 in
     let word = word_at line start in
     let place = word_end line start in
     if bytes_eq word (codes "user") then user_line line place
+    else (if bytes_eq word (codes "bot") then bot_line line place
     else (if bytes_eq word (codes "group") then group_line line place
     else (if bytes_eq word (codes "member") then member_line line place
     else (if bytes_eq word (codes "channel") then channel_line line place
     else (if bytes_eq word (codes "sub") then subscribe_line line place
-    else (if bytes_eq word (codes "send") then send_line line place
-    else step_reading line)))))
+    else message_reading line)))))
 
 -- a line that is empty, has only spaces, or whose first byte is `#`
 unfoldable pub is_nothing : List ℕ → Bool

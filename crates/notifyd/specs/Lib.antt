@@ -3,12 +3,14 @@ pub mod Device
 pub mod MemoryDevices
 pub mod Sink
 pub mod Pieces
+pub mod Tokens
 pub mod Parts
 pub mod Words
 pub mod HubWords
 pub mod Reply
 pub mod LastLine
 pub mod Field
+pub mod Keys
 pub mod Listed
 pub mod Unread
 pub mod Grammar

@@ -4,17 +4,10 @@ use Rattle.chat_model.specs.declared.deal.UserVerdict.{UserVerdict}
 use Rattle.chat_model.specs.declared.deal.Verdict.{Verdict}
 use Rattle.chat_model.specs.declared.deal.Verdict.TheVariants.{Idle, Live}
 use Rattle.presence_queues.specs.declared.answer.QueueItem.{QueueItem}
-use Rattle.notifyd.specs.declared.pieces.Token.{Token}
-use Rattle.notifyd.specs.declared.pieces.Token.TheVariants.{Word, Number}
 
 -- texts one after another
 abbrev pub texts_of : {X : Type 0} → (X → List ℕ) → List X → List ℕ
 texts_of text xs = fold (λ before x. before ++ text x) [] xs
-
--- the text of a word or a number
-abbrev pub token_text : Token → List ℕ
-token_text (Word word) = word.now
-token_text (Number number) = decimal number
 
 -- what stands in a list behind the first: a comma before each
 abbrev pub rest_text : {X : Type 0} → (X → List ℕ) → List X → List ℕ

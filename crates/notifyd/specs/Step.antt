@@ -17,7 +17,6 @@ use Rattle.presence_queues.specs.Hub.{queue_at, overdue_user}
 use Rattle.notice_ledger.specs.Deals.{deal}
 use Rattle.notifyd.specs.declared.line.Line.{Line}
 use Rattle.notifyd.specs.declared.line.Line.TheVariants as line
-use Rattle.notifyd.specs.declared.reply.Reply.{Reply}
 use Rattle.notifyd.specs.declared.reply.Reply.TheVariants as reply
 
 -- a request is refused, and the world stays, or it is an event, which keeps its lists in order

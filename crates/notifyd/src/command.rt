@@ -134,26 +134,31 @@ fn tell<O: Sink>(out: &mut O, ending: &Ending, met: Met) -> Status
 }
 
 // Starts the office and plays the script. Wherever it ends, the office is closed.
-fn play<S: Source, O: Sink, K: Keeper>(
+fn play<'a, S: Source, O: Sink, K: Keeper>(
     alloc: Global,
     source: &mut S,
-    out: &mut O,
+    out: &'a mut O,
     keeper: K,
-) -> Ended<K>
+) -> Ended<'a, K, O>
     ensures went { WentAs result.ending [] result.met
         (devices (S.remaining source.old) (O.written out.old) (K.kept keeper) (S.faults source.old) (O.faults out.old) (K.faults keeper))
-        (devices (S.remaining source.new) (O.written out.new) (K.kept result.keeper) (S.faults source.new) (O.faults out.new) (K.faults result.keeper)) }
+        (devices (S.remaining source.new) result.written result.kept (S.faults source.new) result.sink_faults result.keeper_faults) }
     ensures counted { HaveNotFallen
         (devices (S.remaining source.old) (O.written out.old) (K.kept keeper) (S.faults source.old) (O.faults out.old) (K.faults keeper))
-        (devices (S.remaining source.new) (O.written out.new) (K.kept result.keeper) (S.faults source.new) (O.faults out.new) (K.faults result.keeper)) }
+        (devices (S.remaining source.new) result.written result.kept (S.faults source.new) result.sink_faults result.keeper_faults) }
+    ensures same_sink { result.sink ≡ out.entry.ghost_name }
 {
-    match Play::start(alloc, keeper) {
-        Ok(play) => play.read_all(source, out),
-        Err((fault, keeper)) => Ended {
-            ending: Ending::NotStarted(fault),
-            met: Met::nothing(),
-            keeper,
-        },
+    match Play::start(alloc, keeper, out) {
+        Ok(play) => play.read_all(source),
+        Err(unstarted) => {
+            let (fault, keeper, out) = unstarted;
+            Ended {
+                ending: Ending::NotStarted(fault),
+                met: Met::nothing(),
+                keeper,
+                out,
+            }
+        }
     }
 }
 
@@ -176,6 +181,7 @@ fn play_script<S: Source, O: Sink, K: Keeper>(
         ending,
         met,
         keeper,
+        out,
     } = play(alloc, source, out, keeper);
     (tell(out, &ending, met), keeper)
 }

@@ -2,9 +2,12 @@
 ghost use Rattle.std.specs.Prelude.{◌≡◌, ◌||◌, false};
 ghost use Rattle.notifyd.specs.Play.{is_keeper_fault, is_out_of_memory};
 
+use crate::Sink;
 use crate::reply::Reply;
 use chat_model::Counts;
+use keeper::Keeper;
 use office::StartFault;
+use std::marker::Model;
 
 /// How a play ends.
 #[derive(Debug, Drop)]
@@ -62,10 +65,27 @@ impl Met {
     }
 }
 
-/// A play that ended: how, what was met, and the keeper that it leaves.
+/// A play that ended: how, what was met, and the keeper and the sink that it leaves.
 #[derive(Drop)]
-pub struct Ended<K> {
+pub struct Ended<'a, K: Keeper, O: Sink> {
     pub ending: Ending,
     pub met: Met,
     pub keeper: K,
+    pub out: &'a mut O,
+}
+
+impl<'a, K: Keeper, O: Sink> Model for Ended<'a, K, O> {
+    ghost use Rattle.notifyd.specs.Playing.{Played};
+
+    ghost Value = { Played };
+
+    ghost view = { λ p. record {
+      ending = p.ending;
+      met = p.met;
+      kept = K.kept p.keeper;
+      keeper_faults = K.faults p.keeper;
+      written = O.written p.out.now;
+      sink_faults = O.faults p.out.now;
+      sink = p.out.ghost_name;
+    } };
 }

@@ -1,16 +1,20 @@
 //! The fields of a line, which are read one after another and take no memory.
 ghost use Rattle.std.specs.Prelude.{◌≡◌, ◌≤◌, length, slice_range, IfOk, IfErr, OnOk, IsUtf8, Ok, Err};
 ghost use Rattle.chat_model.specs.Number.{number_of};
-ghost use Rattle.notifyd.specs.Field.{column_of, field_start, word_end, word_at, word_field, moment_of, switch_of, queue_of, upto_of, list_of, string_field, line_end};
+ghost use Rattle.notifyd.specs.Field.{column_of, field_start, word_end, word_at, word_field, moment_of, switch_of, queue_of, upto_of, list_of, numbers_of, string_field, line_end};
+ghost use Rattle.notifyd.specs.Keys.{setting_key_of, setting_of, specific_key_of, specific_of, policy_of};
 ghost use Rattle.notifyd.specs.Fault.{IsBadAt, IsFieldRead};
 
 use crate::field::{
     column_of, field_start, moment_of, queue_of, string_len, switch_of, upto_of, word_end,
 };
+use crate::keys::{
+    SettingKey, SpecificKey, policy_of, setting_key_of, setting_of, specific_key_of, specific_of,
+};
 use crate::line::{Column, LineFault, MAX_LINE};
 use crate::listed::Listed;
 use crate::quoted::Quoted;
-use chat_model::{Moment, QueueId, number_of};
+use chat_model::{Moment, Policy, QueueId, SettingChange, SpecificChange, number_of};
 use std::marker::Model;
 
 /// A line, and the place from which on its fields are still to be read.
@@ -150,6 +154,84 @@ impl<'a> Fields<'a> {
         let word = self.next_word();
         match Listed::of(word.bytes) {
             Some(listed) => Ok(listed),
+            None => Err(word.fault()),
+        }
+    }
+
+    /// A list of at least one number.
+    #[tactic(auto, unfolding(crate::specs::Field::word_field))]
+    pub fn numbers(&mut self) -> Result<Listed<'a>, LineFault>
+        ensures read { IsFieldRead (word_field numbers_of self.old.line self.old.place) result self.new.place }
+        ensures line { self.new.line ≡ self.old.line }
+    {
+        let word = self.next_word();
+        match Listed::of_numbers(word.bytes) {
+            Some(listed) => Ok(listed),
+            None => Err(word.fault()),
+        }
+    }
+
+    /// The name of a switch of a user.
+    #[tactic(auto, unfolding(crate::specs::Field::word_field))]
+    pub fn setting_key(&mut self) -> Result<SettingKey, LineFault>
+        ensures read { IsFieldRead (word_field setting_key_of self.old.line self.old.place) result self.new.place }
+        ensures line { self.new.line ≡ self.old.line }
+    {
+        let word = self.next_word();
+        match setting_key_of(word.bytes) {
+            Some(key) => Ok(key),
+            None => Err(word.fault()),
+        }
+    }
+
+    /// What the switch is set to.
+    #[tactic(auto, unfolding(crate::specs::Field::word_field))]
+    pub fn setting(&mut self, key: SettingKey) -> Result<SettingChange, LineFault>
+        ensures read { IsFieldRead (word_field (setting_of key) self.old.line self.old.place) result self.new.place }
+        ensures line { self.new.line ≡ self.old.line }
+    {
+        let word = self.next_word();
+        match setting_of(key, word.bytes) {
+            Some(change) => Ok(change),
+            None => Err(word.fault()),
+        }
+    }
+
+    /// The name of a setting for a channel.
+    #[tactic(auto, unfolding(crate::specs::Field::word_field))]
+    pub fn specific_key(&mut self) -> Result<SpecificKey, LineFault>
+        ensures read { IsFieldRead (word_field specific_key_of self.old.line self.old.place) result self.new.place }
+        ensures line { self.new.line ≡ self.old.line }
+    {
+        let word = self.next_word();
+        match specific_key_of(word.bytes) {
+            Some(key) => Ok(key),
+            None => Err(word.fault()),
+        }
+    }
+
+    /// What the setting for a channel is set to.
+    #[tactic(auto, unfolding(crate::specs::Field::word_field))]
+    pub fn specific(&mut self, key: SpecificKey) -> Result<SpecificChange, LineFault>
+        ensures read { IsFieldRead (word_field (specific_of key) self.old.line self.old.place) result self.new.place }
+        ensures line { self.new.line ≡ self.old.line }
+    {
+        let word = self.next_word();
+        match specific_of(key, word.bytes) {
+            Some(change) => Ok(change),
+            None => Err(word.fault()),
+        }
+    }
+
+    /// A policy.
+    #[tactic(auto, unfolding(crate::specs::Field::word_field))]
+    pub fn policy(&mut self) -> Result<Policy, LineFault>
+        ensures read { IsFieldRead (word_field policy_of self.old.line self.old.place) result self.new.place }
+        ensures line { self.new.line ≡ self.old.line }
+    {
+        let word = self.next_word();
+        match policy_of(word.bytes) {
+            Some(policy) => Ok(policy),
             None => Err(word.fault()),
         }
     }

@@ -2,15 +2,15 @@
 //! before it takes memory for texts and lists. The first word is looked for in groups of a few kinds.
 ghost use Rattle.std.specs.Prelude.{◌≤◌, length, IsUtf8};
 ghost use Rattle.notifyd.specs.Fault.{IsRead};
-ghost use Rattle.notifyd.specs.Grammar.{at_line, user_line, group_line, member_line, channel_line, subscribe_line, send_line, mail_line, audit_line, step_reading, fields_reading};
+ghost use Rattle.notifyd.specs.Grammar.{user_line, bot_line, group_line, member_line, channel_line, subscribe_line, send_line, direct_line, message_reading, fields_reading};
 
 use crate::fields::Fields;
-use crate::hub_kinds::read_hub;
 use crate::line::{Line, LineFault, MAX_LINE};
+use crate::preference_kinds::read_preference;
 use chat_model::{ChannelId, GroupId, Request, UserId};
 use std::alloc::Global;
 
-/// Reads a line of fields: a request, or else another step.
+/// Reads a line of fields: one of who is there and who belongs where, or else another one.
 #[tactic(auto, unfolding(crate::specs::Grammar::fields_reading))]
 pub fn read_fields(alloc: Global, line: &[u8]) -> Result<Line, LineFault>
     requires small { length line.now ≤ MAX_LINE }
@@ -21,6 +21,8 @@ pub fn read_fields(alloc: Global, line: &[u8]) -> Result<Line, LineFault>
     let kind = fields.next_word();
     if kind.bytes == b"user".as_slice() {
         read_user(alloc, &mut fields)
+    } else if kind.bytes == b"bot".as_slice() {
+        read_bot(alloc, &mut fields)
     } else if kind.bytes == b"group".as_slice() {
         read_group(alloc, &mut fields)
     } else if kind.bytes == b"member".as_slice() {
@@ -29,40 +31,27 @@ pub fn read_fields(alloc: Global, line: &[u8]) -> Result<Line, LineFault>
         read_channel(alloc, &mut fields)
     } else if kind.bytes == b"sub".as_slice() {
         read_subscribe(&mut fields)
-    } else if kind.bytes == b"send".as_slice() {
-        read_send(alloc, &mut fields)
     } else {
-        read_step(line)
+        read_message(alloc, line)
     }
 }
 
-// Reads a line that is no request.
-#[tactic(auto, unfolding(crate::specs::Grammar::step_reading))]
-fn read_step(line: &[u8]) -> Result<Line, LineFault>
+// Reads a line by which a message is sent, or else another one that adds nothing.
+#[tactic(auto, unfolding(crate::specs::Grammar::message_reading))]
+fn read_message(alloc: Global, line: &[u8]) -> Result<Line, LineFault>
     requires small { length line.now ≤ MAX_LINE }
     requires utf8 { IsUtf8 line.now }
-    ensures { IsRead (step_reading line.now) result }
+    ensures { IsRead (message_reading line.now) result }
 {
     let mut fields = Fields::new(line);
     let kind = fields.next_word();
-    if kind.bytes == b"at".as_slice() {
-        read_at(&mut fields)
-    } else if kind.bytes == b"mail".as_slice() {
-        read_mail(&fields)
-    } else if kind.bytes == b"audit".as_slice() {
-        read_audit(&fields)
+    if kind.bytes == b"send".as_slice() {
+        read_send(alloc, &mut fields)
+    } else if kind.bytes == b"dm".as_slice() {
+        read_direct(alloc, &mut fields)
     } else {
-        read_hub(line)
+        read_preference(alloc, line)
     }
-}
-
-#[tactic(auto, unfolding(crate::specs::Grammar::at_line))]
-fn read_at(fields: &mut Fields<'_>) -> Result<Line, LineFault>
-    ensures { IsRead (at_line fields.old.line fields.old.place) result }
-{
-    let moment = fields.moment()?;
-    fields.end()?;
-    Ok(Line::At(moment))
 }
 
 #[tactic(auto, unfolding(crate::specs::Grammar::user_line))]
@@ -74,6 +63,18 @@ fn read_user(alloc: Global, fields: &mut Fields<'_>) -> Result<Line, LineFault>
     Ok(Line::Asked(Request::AddUser {
         name: name.text(alloc)?,
         bot: false,
+    }))
+}
+
+#[tactic(auto, unfolding(crate::specs::Grammar::bot_line))]
+fn read_bot(alloc: Global, fields: &mut Fields<'_>) -> Result<Line, LineFault>
+    ensures { IsRead (bot_line fields.old.line fields.old.place) result }
+{
+    let name = fields.string()?;
+    fields.end()?;
+    Ok(Line::Asked(Request::AddUser {
+        name: name.text(alloc)?,
+        bot: true,
     }))
 }
 
@@ -140,18 +141,17 @@ fn read_send(alloc: Global, fields: &mut Fields<'_>) -> Result<Line, LineFault>
     }))
 }
 
-#[tactic(auto, unfolding(crate::specs::Grammar::mail_line))]
-fn read_mail(fields: &Fields<'_>) -> Result<Line, LineFault>
-    ensures { IsRead (mail_line fields.now.line fields.now.place) result }
+#[tactic(auto, unfolding(crate::specs::Grammar::direct_line))]
+fn read_direct(alloc: Global, fields: &mut Fields<'_>) -> Result<Line, LineFault>
+    ensures { IsRead (direct_line fields.old.line fields.old.place) result }
 {
+    let sender = UserId(fields.number()?);
+    let to = fields.numbers()?;
+    let text = fields.string()?;
     fields.end()?;
-    Ok(Line::Mail)
-}
-
-#[tactic(auto, unfolding(crate::specs::Grammar::audit_line))]
-fn read_audit(fields: &Fields<'_>) -> Result<Line, LineFault>
-    ensures { IsRead (audit_line fields.now.line fields.now.place) result }
-{
-    fields.end()?;
-    Ok(Line::Audit)
+    Ok(Line::Asked(Request::Direct {
+        sender,
+        to: to.users(alloc)?,
+        text: text.text(alloc)?,
+    }))
 }

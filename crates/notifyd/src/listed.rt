@@ -2,7 +2,7 @@
 ghost use Rattle.std.specs.Prelude.{◌≡◌, ℕ, List, [], is_some, IfOk, MatchOption, Some, None};
 ghost use Rattle.std.specs.List.{list_all};
 ghost use Rattle.chat_model.specs.Number.{is_number};
-ghost use Rattle.notifyd.specs.Field.{list_of, parts_of};
+ghost use Rattle.notifyd.specs.Field.{list_of, numbers_of, parts_of};
 ghost use Rattle.notifyd.specs.Listed.{users_of};
 
 use chat_model::{List, OutOfMemory, UserId, number_of};
@@ -36,6 +36,17 @@ impl<'a> Listed<'a> {
             Some(Listed { bytes: word })
         } else {
             None
+        }
+    }
+
+    /// The list of at least one number that a word is, where it is one.
+    pub fn of_numbers(word: &'a [u8]) -> Option<Listed<'a>>
+        ensures { result ≡ numbers_of word.now }
+    {
+        if word == b"-".as_slice() {
+            None
+        } else {
+            Listed::of(word)
         }
     }
 

@@ -8,6 +8,7 @@ mod fields;
 mod hub_kinds;
 mod hub_lines;
 mod hub_words;
+mod keys;
 mod kinds;
 mod last_line;
 mod line;
@@ -15,6 +16,7 @@ mod line_buffer;
 mod listed;
 mod pieces;
 mod play;
+mod preference_kinds;
 mod quoted;
 mod reply;
 mod script;
@@ -23,6 +25,7 @@ mod source;
 mod spool;
 mod standard;
 mod status;
+mod step_kinds;
 mod under_way;
 mod words;
 
@@ -46,6 +49,8 @@ mod kept_tests;
 mod listed_tests;
 #[cfg(test)]
 mod play_tests;
+#[cfg(test)]
+mod preference_tests;
 #[cfg(test)]
 mod request_tests;
 #[cfg(test)]

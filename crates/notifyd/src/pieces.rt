@@ -2,7 +2,8 @@
 ghost use Rattle.std.specs.Prelude.{◌≡◌, ◌≤◌, ◌++◌, codes, OnOk, OnErr};
 ghost use Rattle.std.specs.String.{string_bytes};
 ghost use Rattle.chat_model.specs.Counts.{HasRisen};
-ghost use Rattle.notifyd.specs.Pieces.{token_text, texts_of, rest_text, list_text, item_text, verdict_text, verdict_word};
+ghost use Rattle.notifyd.specs.Tokens.{token_text};
+ghost use Rattle.notifyd.specs.Pieces.{texts_of, rest_text, list_text, item_text, verdict_text, verdict_word};
 ghost use Rattle.notifyd.specs.Sink.{WritesFront, GoesOut};
 
 use crate::Sink;
@@ -21,7 +22,8 @@ pub enum Token<'a> {
 /// What may stand in a list.
 pub trait Piece {
     ghost use Rattle.std.specs.Prelude.{◌≡◌, ◌++◌, ℕ, List};
-    ghost use Rattle.notifyd.specs.Pieces.{token_text, texts_of};
+    ghost use Rattle.notifyd.specs.Tokens.{token_text};
+    ghost use Rattle.notifyd.specs.Pieces.{texts_of};
 
     // its text
     ghost text: { Self → List ℕ };

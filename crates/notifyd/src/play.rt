@@ -1,15 +1,15 @@
 //! A play under way, and what one line does in it.
-ghost use Rattle.std.specs.Prelude.{◌≡◌, ◌+◌, ◌<◌, ◌≤◌, ◌==◌, ◌||◌, ◌++◌, ◌∷◌, [], length, false, max, cond, IfOk, IfErr, IfSome, OnOk, OnErr, Ok, Err, Option, Some, is_some};
-ghost use Rattle.std.specs.Option.{option_map};
+ghost use Rattle.std.specs.Prelude.{◌≡◌, ◌+◌, ◌<◌, ◌≤◌, ◌==◌, ◌||◌, ◌++◌, ◌∷◌, [], length, max, cond, IfOk, IfErr, IfSome, OnOk, OnErr, Ok, Err, Option, Some, is_some};
 ghost use Rattle.chat_model.specs.Counts.{HasRisen};
 ghost use Rattle.presence_queues.specs.Hub.{HubSeen};
 ghost use Rattle.notifyd.specs.Grammar.{reading};
 ghost use Rattle.notifyd.specs.Sink.{WritesFront};
+ghost use Rattle.notifyd.specs.Run.{Wrote};
 ghost use Rattle.notifyd.specs.Cut.{completes};
 ghost use Rattle.notifyd.specs.World.{world};
 ghost use Rattle.notifyd.specs.Play.{IsStep, PlaysLine, answer_text, is_keeper_fault, is_out_of_memory};
 ghost use Rattle.notifyd.specs.Status.{KeptIsConserved};
-ghost use Rattle.notifyd.specs.Going.{Goes, HasBegun, standing};
+ghost use Rattle.notifyd.specs.Going.{Goes, HasBegun, standing, ended_so};
 ghost use Rattle.chat_model.specs.declared.row.Row.{Row};
 ghost use Rattle.office.specs.Office.{KeptStandsFor, HasDisagreed};
 ghost use Rattle.office.specs.Faults.{faults_in_start};
@@ -33,10 +33,12 @@ pub const MAX_SCRIPT: usize = 67_108_864;
 
 /// A play under way.
 #[derive(Drop)]
-pub struct Play<K: Keeper> {
+pub struct Play<'a, K: Keeper, O: Sink> {
     pub alloc: Global,
     pub office: Office<K>,
     pub hub: Hub<PlainPipe>,
+    /// What the answers are written to.
+    pub out: &'a mut O,
     pub clock: Moment,
     pub met: Met,
     /// The number of the line played last, from 1.
@@ -46,13 +48,13 @@ pub struct Play<K: Keeper> {
     pub line: UnderWay,
 }
 
-impl<K: Keeper> Model for Play<K> {
+impl<'a, K: Keeper, O: Sink> Model for Play<'a, K, O> {
     ghost use Rattle.std.specs.Prelude.{◌+◌, ◌≤◌, length};
     ghost use Rattle.notifyd.specs.World.{world};
     ghost use Rattle.notifyd.specs.Cut.{max_script};
     ghost use Rattle.notifyd.specs.Playing.{Playing};
 
-    ghost Value = { Playing K };
+    ghost Value = { Playing };
 
     ghost view = { λ p. record {
       world = world p.office.journal p.hub p.clock;
@@ -60,7 +62,11 @@ impl<K: Keeper> Model for Play<K> {
       number = p.number;
       taken = p.taken;
       under_way = p.line;
-      keeper = p.office.keeper;
+      kept = K.kept p.office.keeper;
+      keeper_faults = K.faults p.office.keeper;
+      written = O.written p.out.now;
+      sink_faults = O.faults p.out.now;
+      sink = p.out.ghost_name;
     } };
 
     ghost invariant = { λ p. (p.number + length p.line ≤ p.taken) × (p.taken ≤ max_script) };
@@ -68,11 +74,11 @@ impl<K: Keeper> Model for Play<K> {
 
 /// How a play goes on.
 #[derive(Drop)]
-pub enum Next<K: Keeper> {
+pub enum Next<'a, K: Keeper, O: Sink> {
     /// It goes on.
-    On(Play<K>),
+    On(Play<'a, K, O>),
     /// It ended.
-    Ended(Ended<K>),
+    Ended(Ended<'a, K, O>),
 }
 
 fn ask<K: Keeper>(office: &mut Office<K>, clock: Moment, request: Request) -> Reply
@@ -110,40 +116,37 @@ fn later(clock: Moment, moment: Moment) -> Moment
     if clock < moment { moment } else { clock }
 }
 
-// Writes the reply, where there is one.
-fn write_answer<O: Sink>(out: &mut O, reply: Option<Reply>) -> Result<(), Failed>
-    ensures ok { OnOk result (O.written out.new ≡ option_map (λ done. done ++ answer_text reply) (O.written out.old)) }
-    ensures front { OnErr result (WritesFront (answer_text reply) (O.written out.old) (O.written out.new)) }
-    ensures cause { OnErr result (HasRisen (O.faults out.old) (O.faults out.new)) }
-    ensures count { O.faults out.old ≤ O.faults out.new }
-{
-    match reply {
-        Some(reply) => write_reply(out, &reply),
-        None => Ok(()),
-    }
-}
-
-impl<K: Keeper> Play<K> {
+impl<'a, K: Keeper, O: Sink> Play<'a, K, O> {
     /// Takes the room for the longest line, and starts the office over what is kept, at moment 0, with a hub of its run.
     /// The clock begins at the stamp of the start.
-    pub fn start(alloc: Global, keeper: K) -> Result<Play<K>, (StartFault, K)>
+    pub fn start(
+        alloc: Global,
+        keeper: K,
+        out: &'a mut O,
+    ) -> Result<Play<'a, K, O>, (StartFault, K, &'a mut O)>
         ensures begun { IfOk result (λ play. HasBegun (K.kept keeper) play) }
-        ensures told { IfOk result (λ play. is_some (K.kept play.keeper) ≡ is_some (K.kept keeper)) }
-        ensures counted { IfOk result (λ play. K.faults play.keeper ≡ K.faults keeper) }
+        ensures told { IfOk result (λ play. is_some play.kept ≡ is_some (K.kept keeper)) }
+        ensures counted { IfOk result (λ play. play.keeper_faults ≡ K.faults keeper) }
+        ensures unwritten { IfOk result (λ play. (play.written ≡ O.written out.old) × (play.sink_faults ≡ O.faults out.old)) }
+        ensures same_sink { IfOk result (λ play. play.sink ≡ out.entry.ghost_name) }
         ensures same { IfErr result (λ e. K.kept e.1 ≡ K.kept keeper) }
         ensures fault { IfErr result (λ e. e.0 ≡ StartFault.KeeperFault → HasRisen (K.faults keeper) (K.faults e.1)) }
         ensures disagree { IfErr result (λ e. (kept replayed : Option Row) → e.0 ≡ StartFault.Disagree kept replayed →
             HasDisagreed (K.kept keeper) kept replayed) }
         ensures counted_err { IfErr result (λ e. K.faults keeper ≤ K.faults e.1) }
         ensures most { IfErr result (λ e. K.faults e.1 ≤ K.faults keeper + faults_in_start e.0) }
+        ensures handed_back { IfErr result (λ e. (e.2.now ≡ out.old) × (e.2.ghost_name ≡ out.entry.ghost_name)) }
     {
         let Ok(line) = UnderWay::new(alloc) else {
-            return Err((StartFault::OutOfMemory, keeper));
+            return Err((StartFault::OutOfMemory, keeper, out));
         };
         let Some(first) = Moment::new(0) else {
             unreachable!();
         };
-        let office = Office::start(alloc, keeper, first)?;
+        let office = match Office::start(alloc, keeper, first) {
+            Ok(office) => office,
+            Err((fault, keeper)) => return Err((fault, keeper, out)),
+        };
         let pipe = PlainPipe::new(alloc);
         let hub = Hub::new(alloc, pipe, office.run_number(), office.deal_count());
         let clock = office.last_stamp();
@@ -151,6 +154,7 @@ impl<K: Keeper> Play<K> {
             alloc,
             office,
             hub,
+            out,
             clock,
             met: Met::nothing(),
             number: 0,
@@ -160,27 +164,33 @@ impl<K: Keeper> Play<K> {
     }
 
     /// Ends the play: the office is closed.
-    pub fn end(self, ending: Ending) -> Ended<K>
-        ensures is { result ≡ record { ending = ending; met = self.met; keeper = self.keeper } }
-        ensures stands { IfSome (K.kept result.keeper) (KeptStandsFor self.world.journal) }
-        ensures conserved { KeptIsConserved (K.kept result.keeper) }
+    pub fn end(self, ending: Ending) -> Ended<'a, K, O>
+        ensures is { result ≡ ended_so ending self.entry }
+        ensures stands { IfSome result.kept (KeptStandsFor self.entry.world.journal) }
+        ensures conserved { KeptIsConserved result.kept }
     {
-        let Play { office, met, .. } = self;
+        let Play {
+            office,
+            met,
+            out,
+            ..
+        } = self;
         Ended {
             ending,
             met,
             keeper: office.close(),
+            out,
         }
     }
 
     // What a line that was read is answered, where it has an answer.
     fn step(&mut self, line: Line) -> Option<Reply>
         ensures step { IsStep self.old.world line result self.new.world }
-        ensures told { is_some (K.kept self.new.keeper) ≡ is_some (K.kept self.old.keeper) }
-        ensures cause { result ≡ Some Reply.KeeperFault → HasRisen (K.faults self.old.keeper) (K.faults self.new.keeper) }
-        ensures count { K.faults self.old.keeper ≤ K.faults self.new.keeper }
-        ensures most { K.faults self.new.keeper ≤ K.faults self.old.keeper + cond (is_keeper_fault result) 1 0 }
-        ensures same { self.new ≡ record self.old { world = self.new.world; keeper = self.new.keeper } }
+        ensures told { is_some self.new.kept ≡ is_some self.old.kept }
+        ensures cause { result ≡ Some Reply.KeeperFault → HasRisen self.old.keeper_faults self.new.keeper_faults }
+        ensures count { self.old.keeper_faults ≤ self.new.keeper_faults }
+        ensures most { self.new.keeper_faults ≤ self.old.keeper_faults + cond (is_keeper_fault result) 1 0 }
+        ensures same { self.new ≡ record self.old { world = self.new.world; kept = self.new.kept; keeper_faults = self.new.keeper_faults } }
     {
         match line {
             Line::Nothing => None,
@@ -217,13 +227,13 @@ impl<K: Keeper> Play<K> {
     fn answer(&mut self) -> Result<Option<Reply>, Column>
         ensures played { IfOk result (λ reply. PlaysLine self.old.world self.old.under_way reply self.new.world) }
         ensures bad { IfErr result (λ column. reading self.old.under_way ≡ Err column) }
-        ensures told { is_some (K.kept self.new.keeper) ≡ is_some (K.kept self.old.keeper) }
+        ensures told { is_some self.new.kept ≡ is_some self.old.kept }
         ensures cause { result ≡ Ok (Some Reply.KeeperFault) →
-            HasRisen (K.faults self.old.keeper) (K.faults self.new.keeper) }
-        ensures count { K.faults self.old.keeper ≤ K.faults self.new.keeper }
+            HasRisen self.old.keeper_faults self.new.keeper_faults }
+        ensures count { self.old.keeper_faults ≤ self.new.keeper_faults }
         ensures most { IfOk result (λ reply.
-            K.faults self.new.keeper ≤ K.faults self.old.keeper + cond (is_keeper_fault reply) 1 0) }
-        ensures same { self.new ≡ record self.old { world = self.new.world; keeper = self.new.keeper } }
+            self.new.keeper_faults ≤ self.old.keeper_faults + cond (is_keeper_fault reply) 1 0) }
+        ensures same { self.new ≡ record self.old { world = self.new.world; kept = self.new.kept; keeper_faults = self.new.keeper_faults } }
         ensures stays { OnErr result (self.new ≡ self.old) }
     {
         match read_line(self.alloc, self.line.bytes()) {
@@ -236,15 +246,27 @@ impl<K: Keeper> Play<K> {
     // Counts the line under way, which was answered so, and begins the next.
     fn pass(&mut self, reply: &Option<Reply>)
         requires { 0 < length self.old.under_way }
-        ensures number { self.new.number ≡ self.old.number + 1 }
-        ensures under_way { self.new.under_way ≡ [] }
+        ensures is { self.new ≡ record self.old { number = self.old.number + 1; met = self.new.met; under_way = [] } }
         ensures keeper_fault { self.new.met.keeper_fault ≡ (self.old.met.keeper_fault || is_keeper_fault reply.now) }
         ensures out_of_memory { self.new.met.out_of_memory ≡ (self.old.met.out_of_memory || is_out_of_memory reply.now) }
-        ensures same { (self.new.world ≡ self.old.world) × (self.new.keeper ≡ self.old.keeper) × (self.new.taken ≡ self.old.taken) }
     {
         self.number += 1;
         self.met = self.met.with(reply);
         self.line.clear();
+    }
+
+    // Writes the reply, where there is one.
+    fn write(&mut self, reply: Option<Reply>) -> Result<(), Failed>
+        ensures ok { OnOk result (Wrote (answer_text reply) self.old.written self.new.written) }
+        ensures front { OnErr result (WritesFront (answer_text reply) self.old.written self.new.written) }
+        ensures cause { OnErr result (HasRisen self.old.sink_faults self.new.sink_faults) }
+        ensures count { self.old.sink_faults ≤ self.new.sink_faults }
+        ensures same { self.new ≡ record self.old { written = self.new.written; sink_faults = self.new.sink_faults } }
+    {
+        match reply {
+            Some(reply) => write_reply(self.out, &reply),
+            None => Ok(()),
+        }
     }
 
     /// Adds a byte to the line under way, and says whether the line is complete with it.
@@ -276,16 +298,15 @@ impl<K: Keeper> Play<K> {
     }
 
     /// Plays the line under way as it stands, and writes its answer.
-    pub fn play_line<O: Sink>(self, out: &mut O) -> Next<K>
+    pub fn play_line(self) -> Next<'a, K, O>
         requires { 0 < length self.under_way }
-        ensures { Goes K.kept K.faults (standing K.kept K.faults self (O.written out.old) (O.faults out.old))
-            (self.under_way ∷ []) [] self.taken result (O.written out.new) (O.faults out.new) }
+        ensures { Goes (standing self.entry) (self.entry.under_way ∷ []) [] self.entry.taken result }
     {
         let mut play = self;
         match play.answer() {
             Ok(reply) => {
                 play.pass(&reply);
-                match write_answer(out, reply) {
+                match play.write(reply) {
                     Ok(()) => Next::On(play),
                     Err(_) => Next::Ended(play.end(Ending::SinkFault)),
                 }

@@ -1,7 +1,9 @@
 //! A play that was made by hand, and one of which each line is compared with the slow computation.
 use super::*;
 use crate::ending::Met;
+use crate::hub_tests::HUB;
 use crate::play::{Next, Play};
+use crate::preference_tests::{PREFERENCES, opened};
 use crate::request_tests::{NOTICES, REQUESTS};
 use crate::run_tests::{IDLE, OPENING, lines_and_answers};
 use crate::under_way::UnderWay;
@@ -19,6 +21,20 @@ fn moment(rt: &impl Abort, seconds: u64) -> Moment {
     Moment::new(seconds).expect(rt, "a moment")
 }
 
+// Plays a line, behind which the play goes on.
+fn go_on<'a, R: Abort>(
+    rt: &R,
+    play: Play<'a, MemoryKeeper, MemorySink>,
+    line: &[u8],
+) -> Play<'a, MemoryKeeper, MemorySink> {
+    assert!(rt; play.is_between_lines());
+    assert!(rt; line.len() <= play.room());
+    match play.take_piece(line) {
+        Next::On(next) => next,
+        Next::Ended(_) => panic!(rt; "the play ended"),
+    }
+}
+
 #[test]
 fn a_clock_behind_the_last_stamp_gives_no_stamp(rt: HostRuntime) -> Result<(), Fail> {
     let alloc = rt.alloc();
@@ -32,24 +48,29 @@ fn a_clock_behind_the_last_stamp_gives_no_stamp(rt: HostRuntime) -> Result<(), F
         office.run_number(),
         office.deal_count(),
     );
+    let line = UnderWay::new(alloc)?;
+    let mut sink = MemorySink::new(alloc, 256, List::new(alloc))?;
     let play = Play {
         alloc,
         office,
         hub,
+        out: &mut sink,
         clock: moment(&rt, 50),
         met: Met::nothing(),
         number: 0,
         taken: 0,
-        line: UnderWay::new(alloc)?,
+        line,
     };
-    let mut sink = MemorySink::new(alloc, 256, List::new(alloc))?;
-    let Next::On(play) = play.take_piece(b"user \"Ada\"\n", &mut sink) else {
-        return Err(Fail::from("the play ended"));
-    };
-    assert_eq!(rt; sink.bytes(), b"user 1\n".as_slice());
-    assert_eq!(rt; play.clock, moment(&rt, 50));
-    assert_eq!(rt; play.office.journal().len(), 2);
-    match play.office.journal().last() {
+    let Play {
+        office,
+        out,
+        clock,
+        ..
+    } = go_on(&rt, play, b"user \"Ada\"\n");
+    assert_eq!(rt; out.bytes(), b"user 1\n".as_slice());
+    assert_eq!(rt; clock, moment(&rt, 50));
+    assert_eq!(rt; office.journal().len(), 2);
+    match office.journal().last() {
         Some(added) => assert_eq!(rt; added.at, moment(&rt, 100)),
         None => panic!(rt; "no event was added"),
     }
@@ -73,7 +94,7 @@ fn count(counts: Counts, account: Account) -> Counts {
     counts
 }
 
-// The counts by the accounts of the notices of the first three users and messages, beside those of the outbox.
+// The counts by the accounts of the notices of the first three users and six messages, beside those of the outbox.
 fn by_account(alloc: Global, journal: &[Stamped], counts: Counts) -> Result<Counts, OutOfMemory> {
     let mut all = Counts {
         flight: 0,
@@ -87,7 +108,7 @@ fn by_account(alloc: Global, journal: &[Stamped], counts: Counts) -> Result<Coun
         ..counts
     };
     for user in 1..4 {
-        for message in 1..4 {
+        for message in 1..7 {
             for way in [Way::Mail, Way::Push] {
                 let here = account(alloc, journal, UserId(user), MessageId(message), way)?;
                 all = count(all, here);
@@ -107,35 +128,36 @@ fn expect_slow_counts<R: Abort + AllocGlobal>(rt: &R, office: &Office<MemoryKeep
 }
 
 // Plays the lines, and compares the counts behind each.
-fn follow<R: Abort + AllocGlobal>(
-    rt: &R,
-    play: Play<MemoryKeeper>,
-    lines: &[u8],
-    sink: &mut MemorySink,
-) {
+fn follow<R: Abort + AllocGlobal>(rt: &R, play: Play<'_, MemoryKeeper, MemorySink>, lines: &[u8]) {
     let mut play = play;
     for line in lines.split_inclusive(|byte| *byte == b'\n') {
-        assert!(rt; play.is_between_lines());
-        assert!(rt; line.len() <= play.room());
-        match play.take_piece(line, sink) {
-            Next::On(next) => play = next,
-            Next::Ended(_) => panic!(rt; "the play ended"),
-        }
+        play = go_on(rt, play, line);
         expect_slow_counts(rt, &play.office);
     }
 }
 
-// Plays the opening and these rows, and compares the counts behind each line.
-fn follow_opened<R: Abort + AllocGlobal>(rt: &R, rows: &str) -> Result<(), Fail> {
+// Plays a worked script, and compares the counts behind each line.
+fn follow_worked<R: Abort + AllocGlobal>(rt: &R, worked: &str) -> Result<(), Fail> {
     let alloc = rt.alloc();
-    let worked = format!(in alloc; "{OPENING}{rows}")?;
-    let (lines, _) = lines_and_answers(alloc, worked.as_str())?;
+    let (lines, _) = lines_and_answers(alloc, worked)?;
     let mut sink = MemorySink::new(alloc, 4_096, List::new(alloc))?;
-    match Play::start(alloc, MemoryKeeper::new(alloc, List::new(alloc))) {
-        Ok(play) => follow(rt, play, lines.as_slice(), &mut sink),
+    let keeper = MemoryKeeper::new(alloc, List::new(alloc));
+    match Play::start(alloc, keeper, &mut sink) {
+        Ok(play) => follow(rt, play, lines.as_slice()),
         Err(_) => panic!(rt; "no start"),
     }
     Ok(())
+}
+
+fn follow_opened<R: Abort + AllocGlobal>(rt: &R, rows: &str) -> Result<(), Fail> {
+    let worked = format!(in rt.alloc(); "{OPENING}{rows}")?;
+    follow_worked(rt, worked.as_str())
+}
+
+// As `ready N` in the rows stands for a line of counts.
+fn follow_counted<R: Abort + AllocGlobal>(rt: &R, rows: &str) -> Result<(), Fail> {
+    let worked = opened(rt.alloc(), rows)?;
+    follow_worked(rt, worked.as_str())
 }
 
 #[test]
@@ -146,6 +168,12 @@ fn the_slow_computation_agrees_behind_each_line(rt: HostRuntime) -> Result<(), F
     }
     for rows in NOTICES {
         follow_opened(&rt, rows)?;
+    }
+    for rows in HUB {
+        follow_opened(&rt, rows)?;
+    }
+    for rows in PREFERENCES {
+        follow_counted(&rt, rows)?;
     }
     Ok(())
 }

@@ -67,8 +67,9 @@ at 220
 mail => mailed 2 entries=1 dropped=0
 mail => not due -
 "#,
-    r#"send 1 1 "a" "@**all** @**everyone** @**topic**" => sent 1 deal 0
-audit => audit flight=0 held=0 ready=0 handed=0 read=0 deleted=0 off=0 live=0 entries=0 waiting=0 written=0
+    r#"# All of a channel, by each of its words, once for each way.
+send 1 1 "a" "@**all** @**everyone** @**topic**" => sent 1 deal 0
+audit => audit flight=0 held=0 ready=2 handed=0 read=0 deleted=0 off=0 live=0 entries=0 waiting=0 written=0
 "#,
     r#"# Marks and line feeds in a text.
 send 1 1 "a" "one `|` two\n_three_ > four ~" => sent 1 deal 0
@@ -80,7 +81,7 @@ audit => audit flight=0 held=0 ready=2 handed=0 read=0 deleted=0 off=0 live=0 en
 ];
 
 #[test]
-fn notices_come_by_name_by_group_and_not_by_wildcards(rt: HostRuntime) -> Result<(), Fail> {
+fn notices_come_by_name_by_group_and_by_wildcards(rt: HostRuntime) -> Result<(), Fail> {
     for rows in NOTICES {
         expect_opened(&rt, rows)?;
     }
@@ -137,6 +138,17 @@ fn names_texts_and_lists_have_their_limits(rt: HostRuntime) -> Result<(), Fail> 
                     (character, 10_000),
                     ("\" => sent 2 deal 1", 1),
                 ],
+                &[
+                    ("dm 1 2 \"", 1),
+                    (character, 10_001),
+                    ("\" => refused 18", 1),
+                ],
+                &[
+                    ("policy 1 1 \"", 1),
+                    (character, 61),
+                    ("\" muted => refused 19", 1),
+                ],
+                &[("policy 1 1 \"", 1), (character, 60), ("\" muted => ok", 1)],
             ],
         )?;
     }
@@ -153,6 +165,12 @@ fn names_texts_and_lists_have_their_limits(rt: HostRuntime) -> Result<(), Fail> 
                 ("group \"OPS\" 1", 1),
                 (",1", 10_000),
                 (" => refused 14", 1),
+            ],
+            &[("dm 1 2", 1), (",2", 9_999), (" \"x\" => sent 1 deal 0", 1)],
+            &[
+                ("dm 1 2", 1),
+                (",2", 10_000),
+                (" \"x\" => refused 23 limit 10000", 1),
             ],
             &[
                 ("send 1 1 \"a\" \"", 1),

@@ -12,19 +12,19 @@ use keeper::Keeper;
 /// The most bytes that are read at once.
 pub const PIECE: usize = 4_096;
 
-impl<K: Keeper> Play<K> {
+impl<'a, K: Keeper, O: Sink> Play<'a, K, O> {
     /// Takes the bytes one by one, and plays each line that they complete.
-    pub fn take_piece<O: Sink>(self, piece: &[u8], out: &mut O) -> Next<K>
+    pub fn take_piece(self, piece: &[u8]) -> Next<'a, K, O>
         requires short { length self.under_way ≤ MAX_LINE }
         requires room { self.taken + length piece.now ≤ MAX_SCRIPT }
-        ensures { Goes K.kept K.faults (standing K.kept K.faults self (O.written out.old) (O.faults out.old))
-            (cut_on (begun self.under_way) piece.now).lines (cut_on (begun self.under_way) piece.now).rest
-            (self.taken + length piece.now) result (O.written out.new) (O.faults out.new) }
+        ensures { Goes (standing self.entry)
+            (cut_on (begun self.entry.under_way) piece.now).lines (cut_on (begun self.entry.under_way) piece.now).rest
+            (self.entry.taken + length piece.now) result }
     {
         let mut play = self;
         for byte in piece {
             if play.add(*byte) {
-                match play.play_line(out) {
+                match play.play_line() {
                     Next::On(next) => play = next,
                     Next::Ended(ended) => return Next::Ended(ended),
                 }
@@ -34,26 +34,24 @@ impl<K: Keeper> Play<K> {
     }
 
     // Plays the bytes behind the last complete line, where there are any: the input came to its end.
-    fn finish<O: Sink>(self, out: &mut O) -> Ended<K>
-        ensures { EndedAtEnd K.kept K.faults (standing K.kept K.faults self (O.written out.old) (O.faults out.old))
-            self.under_way result (O.written out.new) (O.faults out.new) }
+    fn finish(self) -> Ended<'a, K, O>
+        ensures { EndedAtEnd (standing self.entry) self.entry.under_way result }
     {
         if self.is_between_lines() {
             return self.end(Ending::InputEnded);
         }
-        match self.play_line(out) {
+        match self.play_line() {
             Next::On(play) => play.end(Ending::InputEnded),
             Next::Ended(ended) => ended,
         }
     }
 
     // Reads a piece and plays the lines that it completes within the limit of a script.
-    fn read_next<S: Source, O: Sink>(self, source: &mut S, out: &mut O) -> Next<K>
+    fn read_next<S: Source>(self, source: &mut S) -> Next<'a, K, O>
         requires { length self.under_way ≤ MAX_LINE }
-        ensures { Reads K.kept K.faults (standing K.kept K.faults self (O.written out.old) (O.faults out.old))
-            self.under_way self.taken
+        ensures { Reads (standing self.entry) self.entry.under_way self.entry.taken
             (source_seen (S.remaining source.old) (S.remaining source.new) (S.faults source.old) (S.faults source.new))
-            result (O.written out.new) (O.faults out.new) }
+            result }
     {
         let room = self.room();
         let mut piece = [0u8; PIECE];
@@ -61,10 +59,10 @@ impl<K: Keeper> Play<K> {
             return Next::Ended(self.end(Ending::SourceFault));
         };
         if count == 0 {
-            return Next::Ended(self.finish(out));
+            return Next::Ended(self.finish());
         }
         let within = count.min(room);
-        match self.take_piece(&piece[..within], out) {
+        match self.take_piece(&piece[..within]) {
             Next::On(play) => {
                 if within < count {
                     Next::Ended(play.end(Ending::TooLong))
@@ -77,16 +75,15 @@ impl<K: Keeper> Play<K> {
     }
 
     /// Reads the source to its end, and plays its lines.
-    pub fn read_all<S: Source, O: Sink>(self, source: &mut S, out: &mut O) -> Ended<K>
+    pub fn read_all<S: Source>(self, source: &mut S) -> Ended<'a, K, O>
         requires { length self.under_way ≤ MAX_LINE }
-        ensures { EndedReading K.kept K.faults (standing K.kept K.faults self (O.written out.old) (O.faults out.old))
-            self.under_way self.taken
+        ensures { EndedReading (standing self.entry) self.entry.under_way self.entry.taken
             (source_seen (S.remaining source.old) (S.remaining source.new) (S.faults source.old) (S.faults source.new))
-            result (O.written out.new) (O.faults out.new) }
+            result }
     {
         let mut play = self;
         'pieces: loop {
-            match play.read_next(source, out) {
+            match play.read_next(source) {
                 Next::On(next) => play = next,
                 Next::Ended(ended) => return ended,
             }

@@ -169,7 +169,7 @@ fn last_lines_have_their_texts(rt: HostRuntime) -> Result<(), Fail> {
 
 #[test]
 fn bad_lines_have_their_columns(rt: HostRuntime) -> Result<(), Fail> {
-    let rows: [(&[u8], Column); 23] = [
+    let rows: [(&[u8], Column); 33] = [
         (b"at", 3),
         (b"hello", 1),
         (b"user \"Ada", 6),
@@ -193,6 +193,16 @@ fn bad_lines_have_their_columns(rt: HostRuntime) -> Result<(), Fail> {
         (b"ack 2 1:1 x\n", 11),
         (b"leave 2 :1\n", 9),
         (b"deal 1\n", 6),
+        (b"bot Cy\n", 5),
+        (b"set 2 period 5\n", 7),
+        (b"set 2 wildcards default\n", 17),
+        (b"chan 2 1 muted default\n", 16),
+        (b"chan 2 1 wildcard on\n", 10),
+        (b"policy 2 1 \"x\" follow\n", 16),
+        (b"policy 2 1 \"x\"\n", 15),
+        (b"mute 1 2 on 3\n", 13),
+        (b"dm 1 - \"x\"\n", 6),
+        (b"dm 1 2,3 x\n", 10),
     ];
     for (bytes, column) in rows {
         match read_line(rt.alloc(), bytes) {

@@ -3,7 +3,7 @@ ghost use Rattle.std.specs.Prelude.{◌≡◌, ◌==◌, [], true, not, All, OnO
 ghost use Rattle.std.specs.List.{list_any};
 ghost use Rattle.std.specs.Option.{option_copied, option_map_or};
 ghost use Rattle.chat_model.specs.declared.ids.UserId.{UserId};
-ghost use Rattle.missed_hook.specs.Outstanding.{gives_live, has_deal};
+ghost use Rattle.missed_hook.specs.Outstanding.{gives_live, has_deal, is_live};
 ghost use Rattle.presence_queues.specs.Fields.{HasRoomIfLive, deals_of, forgotten, has_entry, waiting_of, waiting_seen, with_live};
 
 use chat_model::{DealNo, OutOfMemory, UserId, UserVerdict, Verdict};
@@ -114,6 +114,22 @@ fn enter(alloc: Global, waiting: &mut Vec<Waiting>, user: UserId) -> Result<(), 
     Ok(())
 }
 
+/// Gives the user of the verdict an entry, where it is Live.
+fn enter_if_live(
+    alloc: Global,
+    waiting: &mut Vec<Waiting>,
+    given: &UserVerdict,
+) -> Result<(), OutOfMemory>
+    ensures same { (u : UserId) → deals_of u (waiting_seen waiting.new.items) ≡ deals_of u (waiting_seen waiting.old.items) }
+    ensures kept { (u : UserId) → has_entry u (waiting_seen waiting.old.items) ≡ true → has_entry u (waiting_seen waiting.new.items) ≡ true }
+    ensures entered { OnOk result (is_live given.now.verdict ≡ true → has_entry given.now.user (waiting_seen waiting.new.items) ≡ true) }
+{
+    match given.verdict {
+        Verdict::Live => enter(alloc, waiting, given.user),
+        Verdict::Idle => Ok(()),
+    }
+}
+
 /// Gives each user an entry for whom a verdict is Live.
 pub fn enter_live(
     alloc: Global,
@@ -124,7 +140,7 @@ pub fn enter_live(
     ensures entered { OnOk result ((u : UserId) → gives_live verdicts.now u ≡ true → has_entry u (waiting_seen waiting.new.items) ≡ true) }
 {
     for given in verdicts {
-        enter(alloc, waiting, given.user)?;
+        enter_if_live(alloc, waiting, given)?;
     }
     Ok(())
 }

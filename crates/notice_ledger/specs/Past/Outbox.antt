@@ -1,5 +1,5 @@
 -- The outbox: the entries that the turns make, numbered from 1 in their order.
-use Rattle.std.specs.Prelude.{ℕ, nat_le, List, [], ◌∷◌, option_map, map, if◌then◌else◌}
+use Rattle.std.specs.Prelude.{ℕ, nat_le, List, [], ◌∷◌, ◌++◌, option_map, map, if◌then◌else◌}
 use Rattle.std.specs.List.{flat_map}
 use Rattle.chat_model.specs.declared.event.Stamped.{Stamped}
 use Rattle.chat_model.specs.declared.event.Event.{Event}
@@ -8,14 +8,16 @@ use Rattle.chat_model.specs.declared.entry.Item.{Item}
 use Rattle.chat_model.specs.declared.entry.Entry.{Entry}
 use Rattle.chat_model.specs.declared.entry.Entry.TheVariants.{Mail}
 use Rattle.chat_model.specs.declared.entry.Conversation.{Conversation}
-use Rattle.chat_model.specs.declared.entry.Conversation.TheVariants.{Channel}
+use Rattle.chat_model.specs.declared.entry.Conversation.TheVariants.{Channel, Direct}
 use Rattle.chat_model.specs.declared.ids.GroupId.{GroupId}
 use Rattle.chat_model.specs.declared.ids.UserId.{UserId}
 use Rattle.chat_model.specs.declared.mentions.GroupName.{GroupName}
 use Rattle.chat_model.specs.declared.trigger.Way.TheVariants as ways
+use Rattle.chat_model.specs.Ascending.{ascending_once_by}
+use Rattle.notice_ledger.specs.declared.destination.Destination.{Destination}
+use Rattle.notice_ledger.specs.declared.destination.Destination.TheVariants as destination
 use Rattle.notice_ledger.specs.Past.Journal.{occurrences}
 use Rattle.notice_ledger.specs.Past.Values.{user_name, group_name, channel_name}
-use Rattle.notice_ledger.specs.Past.Triggers.{came_by}
 use Rattle.notice_ledger.specs.Past.Owed.{Notice, switch_on}
 use Rattle.notice_ledger.specs.Past.Due.{batch_rows}
 
@@ -30,13 +32,22 @@ item j n = record {
   sender = n.message.sender;
   sender_name = user_name j n.message.sender;
   trigger = n.trigger;
-  via = option_map (named_group j) (came_by n.message n.user);
+  via = option_map (named_group j) n.via;
   text = n.message.text;
 }
 
--- a conversation is a channel and a topic
+-- the users of a direct message are those whom it names and its sender, ascending, once each
+abbrev pub users_of : UserId → List UserId → List UserId
+users_of sender to = ascending_once_by (λ u. u.0) (to ++ sender ∷ [])
+
+-- a conversation is a channel and a topic, or the users of a direct message and its sender
+abbrev pub conversation_of : List Stamped → UserId → Destination → Conversation
+conversation_of j sender (destination.Channel channel topic) = Channel channel (channel_name j channel) topic
+conversation_of j sender (destination.Direct to) = Direct (users_of sender to) sender
+
+-- the conversation of a notice's message
 abbrev pub conversation : List Stamped → Notice → Conversation
-conversation j n = Channel n.message.channel (channel_name j n.message.channel) n.message.topic
+conversation j n = conversation_of j n.message.sender n.message.to
 
 -- each message is an entry of its own
 abbrev pub mail_entry : List Stamped → ℕ → Notice → Entry

@@ -6,25 +6,30 @@ use Rattle.chat_model.specs.declared.event.Stamped.{Stamped}
 use Rattle.chat_model.specs.declared.event.Event.{Event}
 use Rattle.chat_model.specs.declared.event.Event.TheVariants.{MailTurn}
 use Rattle.chat_model.specs.declared.ids.UserId.{UserId}
+use Rattle.chat_model.specs.declared.ids.GroupId.{GroupId}
 use Rattle.chat_model.specs.declared.ids.MessageId.{MessageId}
 use Rattle.chat_model.specs.declared.ids.DealNo.{DealNo}
 use Rattle.chat_model.specs.declared.row.Cause.TheVariants.{SwitchedOff}
+use Rattle.chat_model.specs.declared.settings.Settings.{Settings}
 use Rattle.chat_model.specs.declared.trigger.Trigger.{Trigger}
 use Rattle.chat_model.specs.declared.trigger.Way.{Way}
 use Rattle.chat_model.specs.declared.trigger.Way.TheVariants.{Mail, Push}
+use Rattle.chat_model.specs.Settings.{push_switch}
 use Rattle.notice_ledger.specs.declared.accounts.Account.{Account}
-use Rattle.notice_ledger.specs.declared.accounts.Account.TheVariants.{NotOwed, Flight, Held, Ready, Handed, Cancelled, LiveQueue}
+use Rattle.notice_ledger.specs.declared.accounts.Account.TheVariants.{NotOwed, Flight, Ready, Handed, Cancelled, LiveQueue}
 use Rattle.notice_ledger.specs.Past.Journal.{Occurrence, occurrences, first_behind}
 use Rattle.notice_ledger.specs.Past.Values.{SentMessage, message_of, messages, users, deal_count, settings}
-use Rattle.notice_ledger.specs.Past.Triggers.{trigger, mention_switch}
+use Rattle.notice_ledger.specs.Past.Triggers.{trigger, came_by}
 
--- an owed notice: to whom, of which message, by which way; with its trigger, its deal and the event that owes it
+-- an owed notice: to whom, of which message, by which way; with its trigger, the group by which it comes, its deal and the
+-- event that owes it
 pub record Notice : Type 0 where
   pub user : UserId
   pub number : MessageId
   pub way : Way
   pub message : SentMessage
   pub trigger : Trigger
+  pub via : Option GroupId
   pub deal : DealNo
   pub owing : Occurrence
 
@@ -47,9 +52,10 @@ notice_of o m u w =
       way = w;
       message = m;
       trigger = t;
+      via = came_by o.past m.text u t;
       deal = record { 0 = deal_count o.past };
       owing = o;
-    }) (trigger m u w)
+    }) (trigger o.past m m.text u w)
 
 -- what a message's send owes: by user, mail before push
 abbrev pub owed_of : Occurrence → SentMessage → List Notice
@@ -81,9 +87,15 @@ is_turn_of u Push e = false
 abbrev pub turn : List Stamped → Notice → Option Occurrence
 turn j n = option_and_then (λ r. first_behind r.place (λ o. is_turn_of n.user n.way o.event) j) (ready j n)
 
--- a user's switch for a way
+-- the switch that a turn of a way looks at: by mail that of mentions, and by push that of mentions or that of pushes to a
+-- user who is online
+abbrev pub turn_switch : Way → Settings → Bool
+turn_switch Mail s = s.mail_mentions
+turn_switch Push s = push_switch s
+
+-- a user's switch for a turn of a way
 abbrev pub switch_on : List Stamped → UserId → Way → Bool
-switch_on j u w = mention_switch w (settings j u)
+switch_on j u w = turn_switch w (settings j u)
 
 -- a notice that had its turn is handed, or cancelled where the switch was off before the turn
 abbrev pub decided : Notice → Occurrence → Account

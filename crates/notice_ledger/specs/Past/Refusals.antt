@@ -1,10 +1,10 @@
 -- Which rule of a request is broken.
-use Rattle.std.specs.Prelude.{ℕ, Bool, not, nat_lt, List, [], ◌∷◌, length, Option, Some, None, if◌then◌else◌}
+use Rattle.std.specs.Prelude.{ℕ, Bool, ◌&&◌, not, nat_lt, List, [], ◌∷◌, length, Option, Some, None, if◌then◌else◌}
 use Rattle.std.specs.List.{list_all, list_any}
 use Rattle.std.specs.Str.{str_eq_ignore_ascii_case}
 use Rattle.chat_model.specs.declared.event.Stamped.{Stamped}
 use Rattle.chat_model.specs.declared.request.Request.{Request}
-use Rattle.chat_model.specs.declared.request.Request.TheVariants.{AddUser, AddGroup, Member, AddChannel, Subscribe, Send}
+use Rattle.chat_model.specs.declared.request.Request.TheVariants.{AddUser, AddGroup, Member, AddChannel, Subscribe, Set, SetChannel, SetPolicy, Mute, Send, Direct}
 use Rattle.chat_model.specs.declared.request.Refusal.{Refusal}
 use Rattle.chat_model.specs.declared.request.Refusal.TheVariants.{NoUser, NoChannel, NoGroup, Exists, NotSubscribed, EmptyText, TextTooLong, TopicTooLong, TooMany, NameTooLong, BadName}
 use Rattle.notice_ledger.specs.Texts.{is_longer_than, is_blank, is_bad_name}
@@ -51,6 +51,17 @@ rules_of j (Subscribe user channel on) =
     rule (not (is_user j user)) NoUser
     ∷ rule (not (is_channel j channel)) NoChannel
     ∷ []
+rules_of j (Set user change) = rule (not (is_user j user)) NoUser ∷ []
+rules_of j (SetChannel user channel change) =
+    rule (not (is_user j user)) NoUser
+    ∷ rule (not (is_channel j channel)) NoChannel
+    ∷ []
+rules_of j (SetPolicy user channel topic policy) =
+    rule (not (is_user j user)) NoUser
+    ∷ rule (not (is_channel j channel)) NoChannel
+    ∷ rule (is_longer_than longest_topic topic) TopicTooLong
+    ∷ []
+rules_of j (Mute user other on) = rule (not (is_user j user && is_user j other)) NoUser ∷ []
 rules_of j (Send sender channel topic text) =
     rule (not (is_user j sender)) NoUser
     ∷ rule (not (is_channel j channel)) NoChannel
@@ -59,6 +70,12 @@ rules_of j (Send sender channel topic text) =
     ∷ rule (is_longer_than longest_text text) TextTooLong
     ∷ rule (is_longer_than longest_topic topic) TopicTooLong
     ∷ rule (nat_lt most_items (subscriber_count j channel)) (TooMany most_items)
+    ∷ []
+rules_of j (Direct sender to text) =
+    rule (not (is_user j sender && list_all (is_user j) to)) NoUser
+    ∷ rule (is_blank text) EmptyText
+    ∷ rule (is_longer_than longest_text text) TextTooLong
+    ∷ rule (nat_lt most_items (length to)) (TooMany most_items)
     ∷ []
 
 -- the refusal of a request after a journal: the first, by number, whose rule is broken

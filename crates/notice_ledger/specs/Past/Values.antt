@@ -1,19 +1,27 @@
 -- What there is, and the values before a position. A function of a journal means here: of the events before
 -- the position that is spoken of.
-use Rattle.std.specs.Prelude.{ℕ, zero, suc, ◌+◌, Bool, true, false, ◌&&◌, ◌==◌, List, [], ◌∷◌, Option, Some, None, is_some, unwrap_or, length, map, slice_get, count_by, if◌then◌else◌}
+use Rattle.std.specs.Prelude.{ℕ, zero, suc, ◌+◌, Bool, false, ◌&&◌, ◌==◌, List, [], ◌∷◌, Option, Some, None, option_and_then, option_map, is_some, unwrap_or, length, map, slice_get, count_by, if◌then◌else◌}
 use Rattle.std.specs.Option.{option_map_or}
 use Rattle.std.specs.List.{filter_map, list_any, range_with_len}
+use Rattle.std.specs.Str.{str_eq_ignore_ascii_case}
 use Rattle.chat_model.specs.declared.event.Stamped.{Stamped}
 use Rattle.chat_model.specs.declared.event.Event.{Event}
 use Rattle.chat_model.specs.declared.event.Event.TheVariants.{Asked}
-use Rattle.chat_model.specs.declared.request.Request.TheVariants.{AddUser, AddGroup, Member, AddChannel, Subscribe, Send}
+use Rattle.chat_model.specs.declared.request.Request.TheVariants.{AddUser, AddGroup, Member, AddChannel, Subscribe, Set, SetChannel, SetPolicy, Mute, Send, Direct}
 use Rattle.chat_model.specs.declared.ids.UserId.{UserId}
 use Rattle.chat_model.specs.declared.ids.ChannelId.{ChannelId}
 use Rattle.chat_model.specs.declared.ids.GroupId.{GroupId}
+use Rattle.chat_model.specs.declared.policy.Policy.{Policy}
+use Rattle.chat_model.specs.declared.policy.Policy.TheVariants.{Inherit}
+use Rattle.chat_model.specs.declared.policy.Specific.{Specific}
+use Rattle.chat_model.specs.declared.policy.SpecificChange.{SpecificChange}
 use Rattle.chat_model.specs.declared.settings.Settings.{Settings}
+use Rattle.chat_model.specs.declared.settings.SettingChange.{SettingChange}
 use Rattle.chat_model.specs.declared.mentions.UserName.{UserName}
 use Rattle.chat_model.specs.declared.mentions.GroupName.{GroupName}
-use Rattle.chat_model.specs.Settings.{default_settings}
+use Rattle.chat_model.specs.Settings.{default_settings, given_mail_mentions, given_push_mentions, given_push_online, given_channel_mail, given_channel_push, given_wildcards, given_followed_mail, given_followed_push, given_followed_wildcards, default_specific, given_muted, given_specific_mail, given_specific_push, given_specific_wildcards}
+use Rattle.notice_ledger.specs.declared.destination.Destination.{Destination}
+use Rattle.notice_ledger.specs.declared.destination.Destination.TheVariants as destination
 use Rattle.notice_ledger.specs.Past.Journal.{Occurrence, occurrences, last_given}
 
 -- the n-th of a list, from 1
@@ -111,14 +119,23 @@ is_channel j c = is_some (numbered c.0 (channels j))
 pub record SentMessage : Type 0 where
   pub past : List Stamped
   pub sender : UserId
-  pub channel : ChannelId
-  pub topic : List ℕ
+  pub to : Destination
   pub text : List ℕ
+
+-- what an event sends
+pub record Sending : Type 0 where
+  pub sender : UserId
+  pub to : Destination
+  pub text : List ℕ
+
+abbrev pub sending_of : Event → Option Sending
+sending_of (Asked (Send sender channel topic text)) = Some (record { sender = sender; to = destination.Channel channel topic; text = text })
+sending_of (Asked (Direct sender to text)) = Some (record { sender = sender; to = destination.Direct to; text = text })
+sending_of _ = None
 
 -- the message that an event behind these sends
 abbrev pub sent_by : List Stamped → Event → Option SentMessage
-sent_by past (Asked (Send sender channel topic text)) = Some (record { past = past; sender = sender; channel = channel; topic = topic; text = text })
-sent_by past _ = None
+sent_by past event = option_map (λ s. record { past = past; sender = s.sender; to = s.to; text = s.text }) (sending_of event)
 
 -- the message that an event sends
 abbrev pub message_of : Occurrence → Option SentMessage
@@ -128,10 +145,9 @@ message_of o = sent_by o.past o.event
 unfoldable pub messages : List Stamped → List SentMessage
 messages j = filter_map message_of (occurrences j)
 
--- whether an event makes a deal
+-- an event makes a deal where it sends a message
 abbrev pub makes_deal : Event → Bool
-makes_deal (Asked (Send sender channel topic text)) = true
-makes_deal _ = false
+makes_deal event = is_some (sending_of event)
 
 -- the number of deals
 unfoldable pub deal_count : List Stamped → ℕ
@@ -169,6 +185,72 @@ subscribed j u c = last_given (λ o. subscription_change u c o.event) false j
 unfoldable pub subscriber_count : List Stamped → ChannelId → ℕ
 subscriber_count j c = count_by (λ u. subscribed j u c) (users j)
 
--- a user's settings
-abbrev pub settings : List Stamped → UserId → Settings
-settings j u = default_settings
+-- what an event changes of a user's settings
+abbrev pub setting_change : UserId → Event → Option SettingChange
+setting_change u (Asked (Set user change)) = if user.0 == u.0 then Some change else None
+setting_change u _ = None
+
+-- one of a user's settings: what the last change gives to it, else what it is at first
+abbrev pub setting : {A : Type 0} → (SettingChange → Option A) → A → List Stamped → UserId → A
+setting given start j u = last_given (λ o. option_and_then given (setting_change u o.event)) start j
+
+-- a user's settings; no event changes the period yet
+unfoldable pub settings : List Stamped → UserId → Settings
+settings j u = record {
+  mail_mentions = setting given_mail_mentions default_settings.mail_mentions j u;
+  push_mentions = setting given_push_mentions default_settings.push_mentions j u;
+  push_online = setting given_push_online default_settings.push_online j u;
+  channel_mail = setting given_channel_mail default_settings.channel_mail j u;
+  channel_push = setting given_channel_push default_settings.channel_push j u;
+  wildcards = setting given_wildcards default_settings.wildcards j u;
+  followed_mail = setting given_followed_mail default_settings.followed_mail j u;
+  followed_push = setting given_followed_push default_settings.followed_push j u;
+  followed_wildcards = setting given_followed_wildcards default_settings.followed_wildcards j u;
+  period = default_settings.period;
+}
+
+-- what an event changes of a user's settings for a channel
+abbrev pub specific_change : UserId → ChannelId → Event → Option SpecificChange
+specific_change u c (Asked (SetChannel user channel change)) = if user.0 == u.0 && channel.0 == c.0 then Some change else None
+specific_change u c _ = None
+
+-- one of a user's settings for a channel: what the last change gives to it, else what it is at first
+abbrev pub channel_setting : {A : Type 0} → (SpecificChange → Option A) → A → List Stamped → UserId → ChannelId → A
+channel_setting given start j u c = last_given (λ o. option_and_then given (specific_change u c o.event)) start j
+
+-- a user's settings for a channel
+unfoldable pub specific : List Stamped → UserId → ChannelId → Specific
+specific j u c = record {
+  muted = channel_setting given_muted default_specific.muted j u c;
+  mail = channel_setting given_specific_mail default_specific.mail j u c;
+  push = channel_setting given_specific_push default_specific.push j u c;
+  wildcards = channel_setting given_specific_wildcards default_specific.wildcards j u c;
+}
+
+-- what an event makes of a user's policy for a topic of a channel, without ASCII case
+abbrev pub policy_change : UserId → ChannelId → List ℕ → Event → Option Policy
+policy_change u c topic (Asked (SetPolicy user channel other policy)) =
+    if user.0 == u.0 && channel.0 == c.0 && str_eq_ignore_ascii_case topic other then Some policy else None
+policy_change u c topic _ = None
+
+-- a user's policy for a topic of a channel
+unfoldable pub policy : List Stamped → UserId → ChannelId → List ℕ → Policy
+policy j u c topic = last_given (λ o. policy_change u c topic o.event) Inherit j
+
+-- what an event makes of a user's muting of another
+abbrev pub mute_change : UserId → UserId → Event → Option Bool
+mute_change u v (Asked (Mute user other on)) = if user.0 == u.0 && other.0 == v.0 then Some on else None
+mute_change u v _ = None
+
+-- whether a user has muted another
+unfoldable pub has_muted : List Stamped → UserId → UserId → Bool
+has_muted j u v = last_given (λ o. mute_change u v o.event) false j
+
+-- a message goes to this topic of this channel, without ASCII case
+abbrev pub is_to_topic : ChannelId → List ℕ → Destination → Bool
+is_to_topic c topic (destination.Channel channel other) = channel.0 == c.0 && str_eq_ignore_ascii_case topic other
+is_to_topic c topic (destination.Direct to) = false
+
+-- a participant of a topic of a channel is the sender of a message that was sent to it
+unfoldable pub is_participant : List Stamped → UserId → ChannelId → List ℕ → Bool
+is_participant j u c topic = list_any (λ m. m.sender.0 == u.0 && is_to_topic c topic m.to) (messages j)

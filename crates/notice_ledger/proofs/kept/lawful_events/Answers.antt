@@ -1,4 +1,4 @@
-use Rattle.std.proofs.Common.{◌≡◌, List, [], ◌∷◌, ◌++◌, take, sym, ap, ◌∙◌}
+use Rattle.std.proofs.Common.{List, [], ◌∷◌, ◌++◌, take, sym, ap, ◌∙◌}
 use Rattle.chat_model.specs.declared.event.Stamped.{Stamped}
 use Rattle.notice_ledger.specs.Past.Lawful.{is_lawful_after}
 use Rattle.notice_ledger.specs.Lawful.{lawful}

@@ -1,4 +1,4 @@
-use Rattle.std.proofs.Common.{◌≡◌, List, ◌++◌, map, take, sym, ap, ◌∙◌}
+use Rattle.std.proofs.Common.{List, ◌++◌, map, take, sym, ap, ◌∙◌}
 use Rattle.std.proofs.lemmas.List.{map-append}
 use Rattle.notice_ledger.specs.declared.owed.Owed.{Owed}
 use Rattle.notice_ledger.specs.Past.Journal.{occurrence}

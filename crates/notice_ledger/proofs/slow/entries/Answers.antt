@@ -1,4 +1,4 @@
-use Rattle.std.proofs.Common.{◌≡◌, List, ◌++◌, length, take, sym, ap, ◌∙◌, length-append}
+use Rattle.std.proofs.Common.{List, length, take, sym, ap, ◌∙◌, length-append}
 use Rattle.chat_model.specs.declared.event.Stamped.{Stamped}
 use Rattle.chat_model.specs.declared.entry.Entry.{Entry}
 use Rattle.notice_ledger.specs.Past.Outbox.{outbox, entries_by}

@@ -1,6 +1,5 @@
-use Rattle.std.proofs.Common.{ap, ◌∙◌}
-use Rattle.std.specs.Prelude.{Some, None, find}
-use Rattle.notice_ledger.specs.Plain.{is_of_kept}
+use Rattle.std.proofs.Common.{◌∙◌}
+use Rattle.std.specs.Prelude.{Some, None}
 use Rattle.notice_ledger.proofs.SlowLemmas.{account-found}
 use Rattle.notice_ledger.proofs.slow.lawful_account.Goals as goal
 

@@ -1,6 +1,6 @@
-use Rattle.std.proofs.Common.{◌≡◌, List, map, sym, ap, ◌∙◌}
+use Rattle.std.proofs.Common.{List, map, ap, ◌∙◌}
 use Rattle.notice_ledger.specs.declared.owed.Owed.{Owed}
-use Rattle.notice_ledger.specs.Plain.{account_kept, counts_kept}
+use Rattle.notice_ledger.specs.Plain.{account_kept}
 use Rattle.notice_ledger.proofs.SlowLemmas.{counts_kept-counts_of}
 use Rattle.notice_ledger.proofs.slow.lawful_counts.Goals as goal
 

@@ -1,4 +1,4 @@
-use Rattle.std.proofs.Common.{◌≡◌, take, sym, ap, ◌∙◌}
+use Rattle.std.proofs.Common.{take, sym, ap, ◌∙◌}
 use Rattle.std.specs.Prelude.{unwrap_or}
 use Rattle.notice_ledger.specs.Past.Values.{subscribed, subscription_change}
 use Rattle.notice_ledger.proofs.Lists.{take_next}

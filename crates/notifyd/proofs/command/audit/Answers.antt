@@ -1,4 +1,4 @@
-use Rattle.std.proofs.Common.{ℕ, List, Option, subst}
+use Rattle.std.proofs.Common.{subst}
 use Rattle.notifyd.specs.declared.ending.Met.{Met}
 use Rattle.notifyd.specs.Status.{status_number}
 use Rattle.notifyd.specs.Run.{Devices, devices, Tells}

@@ -1,10 +1,18 @@
-use Rattle.notifyd.specs.Run.{devices}
+use Rattle.std.proofs.Common.{◌≤◌, ◌∙◌, [], sym, ap, subst, rules}
+use Rattle.notifyd.specs.Playing.{Played}
+use Rattle.notifyd.specs.Status.{status_number}
+use Rattle.notifyd.specs.Run.{Devices, devices, WentAs, RanAs}
 use Rattle.notifyd.proofs.RunLemmas.{ran_told}
 use Rattle.notifyd.proofs.command.play_script.Goals as goal
 
 pub returns-clause-ran : goal.returns-clause-ran
 returns-clause-ran g c =
-    let ended = c.play-ending.result in
+    let left = c.ending.inside in
     let before = devices (g.S.Source.remaining c.args.source.now) (g.O.Sink.written c.args.out.now) (g.K.Keeper.kept c.args.keeper) (g.S.Source.faults c.args.source.now) (g.O.Sink.faults c.args.out.now) (g.K.Keeper.faults c.args.keeper) in
-    let mid = devices (g.S.Source.remaining c.play-ending.new.source) (g.O.Sink.written c.play-ending.new.out) (g.K.Keeper.kept ended.keeper) (g.S.Source.faults c.play-ending.new.source) (g.O.Sink.faults c.play-ending.new.out) (g.K.Keeper.faults ended.keeper) in
-    ran_told ended.ending ended.met before mid _ _ _ c.play-ending.ensures.counted.sink c.tell.ensures.count c.tell.ensures.told c.play-ending.ensures.went
+    let behind : Played → Devices = λ it. devices (g.S.Source.remaining c.play.new.source) it.written it.kept (g.S.Source.faults c.play.new.source) it.sink_faults it.keeper_faults in
+    let now : g.row.O.Denot → Devices = λ out. devices (g.S.Source.remaining c.play.new.source) (g.O.Sink.written out) (g.K.Keeper.kept left.keeper) (g.S.Source.faults c.play.new.source) (g.O.Sink.faults out) (g.K.Keeper.faults left.keeper) in
+    let P : Played → Type 0 = λ it. WentAs it.ending [] it.met before (behind it) in
+    let Q : Played → Type 0 = λ it. before.sink_faults ≤ it.sink_faults in
+    let R : g.row.O.Denot → Type 0 = λ out. RanAs before (status_number c.tell.result) (now out) in
+    let same = sym c.play.ensures.same_sink ∙ sym (ap (λ (p : Played). p.sink) c.ending.view_is) in
+    subst R (search (same, rules)) (ran_told left.ending left.met before (now left.out.now) _ _ _ (subst Q (sym c.ending.view_is) c.play.ensures.counted.sink) c.tell.ensures.count c.tell.ensures.told (subst P (sym c.ending.view_is) c.play.ensures.went))

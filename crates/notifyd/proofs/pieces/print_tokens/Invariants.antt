@@ -1,6 +1,7 @@
 use Rattle.std.proofs.Common.{◌≡◌, ◌++◌, take}
 use Rattle.std.specs.String.{string_bytes}
-use Rattle.notifyd.specs.Pieces.{token_text, texts_of}
+use Rattle.notifyd.specs.Pieces.{texts_of}
+use Rattle.notifyd.specs.Tokens.{token_text}
 use Rattle.notifyd.proofs.pieces.print_tokens.Given as goal
 
 abbrev pub invariant-loop-token : goal.invariant-loop-token

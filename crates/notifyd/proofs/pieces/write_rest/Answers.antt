@@ -1,4 +1,4 @@
-use Rattle.std.proofs.Common.{ℕ, List, ◌++◌, arith, subst}
+use Rattle.std.proofs.Common.{◌++◌, arith, subst}
 use Rattle.std.specs.Prelude.{codes}
 use Rattle.notifyd.specs.Sink.{WritesFront, GoesOut}
 use Rattle.notifyd.proofs.SinkLemmas.{OnErr-from}

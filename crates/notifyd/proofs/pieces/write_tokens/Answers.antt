@@ -1,5 +1,5 @@
 use Rattle.std.proofs.Common.{arith}
-use Rattle.notifyd.specs.Pieces.{token_text}
+use Rattle.notifyd.specs.Tokens.{token_text}
 use Rattle.notifyd.proofs.SinkLemmas.{OnErr-from}
 use Rattle.notifyd.proofs.PartsLemmas.{GoesOut-more, WritesFront-among}
 use Rattle.notifyd.proofs.pieces.write_tokens.Goals as goal

@@ -1,5 +1,6 @@
 use Rattle.std.proofs.Common.{◌≤◌, ◌++◌, take}
-use Rattle.notifyd.specs.Pieces.{token_text, texts_of}
+use Rattle.notifyd.specs.Pieces.{texts_of}
+use Rattle.notifyd.specs.Tokens.{token_text}
 use Rattle.notifyd.specs.Sink.{GoesOut}
 use Rattle.notifyd.proofs.pieces.write_tokens.Given as goal
 

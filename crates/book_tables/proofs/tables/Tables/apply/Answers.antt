@@ -1,4 +1,4 @@
-use Rattle.std.proofs.Common.{◌≡◌, List, [], ◌∷◌, ◌++◌, true, sym, ap, ◌∙◌, subst}
+use Rattle.std.proofs.Common.{List, sym, subst}
 use Rattle.chat_model.specs.declared.event.Stamped.{Stamped}
 use Rattle.notice_ledger.specs.Lawful.{lawful}
 use Rattle.notice_ledger.proofs.LawfulLemmas.{lawful-next}

@@ -1,4 +1,4 @@
-use Rattle.std.proofs.Common.{◌≡◌, length, arith}
+use Rattle.std.proofs.Common.{arith}
 use Rattle.notice_ledger.specs.Lawful.{lawful}
 use Rattle.book_tables.proofs.Standing.{messages_dealt}
 use Rattle.book_tables.proofs.tables.Tables.deals.Goals as goal

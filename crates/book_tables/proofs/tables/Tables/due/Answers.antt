@@ -1,5 +1,5 @@
-use Rattle.std.proofs.Common.{◌≡◌, ap, sym, ◌∙◌, ◌+◌}
-use Rattle.std.specs.Prelude.{Option, Some, None, option_map, find}
+use Rattle.std.proofs.Common.{ap, ◌∙◌, ◌+◌}
+use Rattle.std.specs.Prelude.{Option, Some, option_map, find}
 use Rattle.notice_ledger.specs.Lawful.{lawful}
 use Rattle.book_tables.specs.declared.tables.Waiting.{Waiting}
 use Rattle.book_tables.specs.Tables.{is_mail_to}

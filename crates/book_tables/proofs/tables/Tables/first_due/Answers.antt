@@ -1,4 +1,4 @@
-use Rattle.std.proofs.Common.{take, sym, ap, ◌∙◌, arith}
+use Rattle.std.proofs.Common.{take, sym, ap, ◌∙◌}
 use Rattle.std.specs.Prelude.{option_map, Some}
 use Rattle.std.specs.Option.{option_map_or}
 use Rattle.std.proofs.lemmas.List.{take_all}

@@ -1,4 +1,4 @@
-use Rattle.std.proofs.Common.{List, [], sym, subst, refl}
+use Rattle.std.proofs.Common.{List, sym, subst, refl}
 use Rattle.chat_model.specs.declared.event.Stamped.{Stamped}
 use Rattle.notice_ledger.proofs.LawfulLemmas.{IsLawful-nil}
 use Rattle.book_tables.specs.declared.tables.Tables.{Tables}
@@ -14,14 +14,16 @@ returns c =
       starts = 0;
       names = c.new-2.result;
       bots = c.new-3.result;
-      groups = c.new-4.result;
-      members = c.new-5.result;
-      channels = c.new-6.result;
-      subscribers = c.new-7.result;
-      messages = c.new-8.result;
-      waiting = c.new-9.result;
-      deals = c.new-10.result;
-      outbox = c.new-11.result;
+      preferences = c.new-4.result;
+      groups = c.new-5.result;
+      members = c.new-6.result;
+      channels = c.new-7.result;
+      subscribers = c.new-8.result;
+      messages = c.new-9.result;
+      waiting = c.new-10.result;
+      deals = c.new-11.result;
+      outbox = c.new-12.result;
+      off = 0;
     } in
     subst (λ (j : List Stamped). Holds t j) (sym IsLawful-nil)
-    (empty_stands t c.in-Some.ensures.value refl c.new-2.ensures.items c.new-3.ensures.items c.new-4.ensures.items c.new-5.ensures.items c.new-6.ensures.items c.new-7.ensures.items c.new-8.ensures.items c.new-9.ensures.items c.new-10.ensures.items c.new-11.ensures.items)
+    (empty_stands t c.in-Some.ensures.value refl c.new-2.ensures.items c.new-3.ensures.items c.new-5.ensures.items c.new-6.ensures.items c.new-7.ensures.items c.new-8.ensures.items c.new-9.ensures.items c.new-10.ensures.items c.new-11.ensures.items c.new-12.ensures.items c.new-4.ensures.items refl)

@@ -3,7 +3,7 @@ use Rattle.std.specs.Prelude.{◌≡◌, true, ◌++◌, ◌∷◌, []}
 use Rattle.chat_model.specs.Rows.{changed_all}
 use Rattle.chat_model.specs.declared.event.Stamped.{Stamped}
 use Rattle.chat_model.specs.declared.event.Event.{Event}
-use Rattle.chat_model.specs.declared.event.Event.TheVariants.{Restart, Asked, MailTurn}
+use Rattle.chat_model.specs.declared.event.Event.TheVariants.{Asked, MailTurn}
 use Rattle.notice_ledger.specs.Lawful.{lawful, is_lawful_after}
 use Rattle.notice_ledger.specs.Rows.{rows}
 use Rattle.book_tables.specs.declared.tables.Tables.{Tables}

@@ -1,8 +1,6 @@
 use Rattle.std.proofs.Common.{◌≡◌, ◌+◌, ◌++◌, List, length, map, filter, refl, ap, ◌∙◌, arith}
-use Rattle.chat_model.specs.declared.row.Row.TheVariants as row
 use Rattle.chat_model.specs.declared.row.RowChange.{RowChange}
 use Rattle.chat_model.specs.declared.row.RowChange.TheVariants.{Put, Remove}
-use Rattle.chat_model.specs.declared.settings.Settings.{Settings}
 use Rattle.chat_model.specs.declared.entry.Entry.{Entry}
 use Rattle.notice_ledger.specs.Past.Rows.{outbox_rows_from}
 use Rattle.book_tables.specs.declared.tables.Waiting.{Waiting}
@@ -13,7 +11,7 @@ use Rattle.book_tables.proofs.tables.Tables.prepare_mails.Goals as goal
 
 pub put_entries-requires : goal.put_entries-requires
 put_entries-requires c =
-    omega (arith, c.args.self.now.outbox.small, c.args.self.now.outbox.ok.0, c.in_ok-entries.entries.small, c.in_ok-entries.entries.ok.0, c.len.ensures, c.deref-2.ensures.value)
+    omega (arith, c.args.self.now.outbox.small, c.args.self.now.outbox.ok.0, c.in_ok-entries.entries.small, c.in_ok-entries.entries.ok.0, c.len.ensures, ap length c.deref-2.ensures.value)
 
 pub returns : goal.returns
 returns c = λ past h.
@@ -28,5 +26,5 @@ returns c = λ past h.
           ∙ (ap (λ (cs : List RowChange). cs ++ map (λ w. Remove (key_of_notice w)) (filter (is_mail_to u) c.deref.result.now)) c.new-changes.ensures.items
           ∙ ap (λ (ws : List Waiting). map (λ w. Remove (key_of_notice w)) (filter (is_mail_to u) ws)) c.deref.ensures.value))
           ∙ changes-mails t past h c.args.at u c.len.result es many made));
-      effect = (refl, made);
+      effect = (refl, made, c.switched_off.ensures past h);
     }

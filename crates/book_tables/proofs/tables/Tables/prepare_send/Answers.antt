@@ -1,14 +1,14 @@
 use Rattle.std.proofs.Common.{◌≡◌, ℕ, ◌+◌, ◌++◌, ◌∷◌, [], List, length, map, refl, ap, ◌∙◌, arith}
 use Rattle.chat_model.specs.declared.row.Row.TheVariants as row
 use Rattle.chat_model.specs.declared.row.RowChange.{RowChange}
-use Rattle.chat_model.specs.declared.row.RowChange.TheVariants.{Put, Remove}
-use Rattle.chat_model.specs.declared.settings.Settings.{Settings}
+use Rattle.chat_model.specs.declared.row.RowChange.TheVariants.{Put}
 use Rattle.std.specs.Prelude.{false}
 use Rattle.book_tables.specs.declared.tables.Waiting.{Waiting}
 use Rattle.notice_ledger.specs.Past.Journal.{occurrence}
 use Rattle.book_tables.specs.Tables.{send_of}
 use Rattle.book_tables.specs.Prepared.{notice_row}
-use Rattle.book_tables.proofs.Following.{changes-send}
+use Rattle.book_tables.specs.declared.prepared.Effect.TheVariants as effect
+use Rattle.book_tables.proofs.Following.{changes-send, effect-send}
 use Rattle.book_tables.proofs.tables.Tables.prepare_send.Goals as goal
 
 pub returns : goal.returns
@@ -21,5 +21,5 @@ returns c = λ past h.
           ∙ (ap (λ (xs : List Waiting). c.push.new.self.items ++ map (λ w. Put (notice_row w)) xs) c.deref-2.ensures.value
           ∙ (ap (λ (cs : List RowChange). cs ++ map (λ w. Put (notice_row w)) ws) (c.in_ok-push.ensures.items ∙ ap (λ (cs : List RowChange). cs ++ Put (row.Message (record { 0 = c.len.result + 1 }) k.sender c.in_ok-copy.field-0 false) ∷ []) c.new-changes.ensures.items)
           ∙ (ap (λ (x : List ℕ). Put (row.Message (record { 0 = c.len.result + 1 }) k.sender x false) ∷ map (λ w. Put (notice_row w)) ws) c.in_ok-copy.ensures ∙ changes-send t past h c.args.at k c.len.result ws many owed)));
-      effect = (refl, owed, c.in_ok-deal.ensures (occurrence past (send_of c.args.at k)) h (c.deref.ensures.value ∙ owed));
+      effect = effect-send past c.args.at k.sender k.to k.text (effect.Message k c.in_ok-waiting.waiting c.in_ok-deal.deal) (refl, owed, c.in_ok-deal.ensures (occurrence past (send_of c.args.at k)) h (c.deref.ensures.value ∙ owed));
     }

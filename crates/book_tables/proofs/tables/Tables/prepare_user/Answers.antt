@@ -1,9 +1,8 @@
 use Rattle.std.proofs.Common.{◌≡◌, ℕ, ◌+◌, ◌++◌, ◌∷◌, [], List, length, refl, ap, ◌∙◌, arith}
 use Rattle.chat_model.specs.declared.row.Row.TheVariants as row
 use Rattle.chat_model.specs.declared.row.RowChange.{RowChange}
-use Rattle.chat_model.specs.declared.row.RowChange.TheVariants.{Put, Remove}
+use Rattle.chat_model.specs.declared.row.RowChange.TheVariants.{Put}
 use Rattle.chat_model.specs.declared.settings.Settings.{Settings}
-use Rattle.chat_model.specs.Settings.{default_settings}
 use Rattle.notice_ledger.specs.Past.Values.{people}
 use Rattle.book_tables.specs.declared.prepared.Effect.TheVariants as effect
 use Rattle.book_tables.proofs.Standing.{names_long}

@@ -1,6 +1,5 @@
-use Rattle.std.proofs.Common.{◌≡◌, ◌++◌, ◌∷◌, List, true, not, sym, ap, ◌∙◌, subst}
+use Rattle.std.proofs.Common.{◌≡◌, true, not, sym, ap, ◌∙◌, subst}
 use Rattle.std.specs.Prelude.{insert, if◌then◌else◌}
-use Rattle.chat_model.specs.declared.ids.UserId.{UserId}
 use Rattle.notice_ledger.specs.InOrder.{is_ascending}
 use Rattle.book_tables.specs.UserSets.{users_after}
 use Rattle.book_tables.proofs.SetSizes.{ascending-after}

@@ -1,4 +1,4 @@
-use Rattle.std.proofs.Common.{◌≡◌, true, false, not, eqb, rules, sym, ap, ◌∙◌}
+use Rattle.std.proofs.Common.{◌≡◌, false, not, eqb, rules, ap, ◌∙◌}
 use Rattle.std.proofs.lemmas.Fn.{filter_same}
 use Rattle.std.specs.Prelude.{filter}
 use Rattle.chat_model.specs.declared.ids.UserId.{UserId}

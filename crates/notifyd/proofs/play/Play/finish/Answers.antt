@@ -1,20 +1,20 @@
 use Rattle.notifyd.specs.declared.ending.Ending.TheVariants.{InputEnded}
-use Rattle.notifyd.proofs.GoingLemmas.{HaveCounted-same}
+use Rattle.notifyd.proofs.GoingLemmas.{IsLater-same, IsLater-answered}
 use Rattle.notifyd.proofs.PlayingLemmas.{ended_at_end}
 use Rattle.notifyd.proofs.ReadingLemmas.{no_byte, some_byte, Answers-no_last, Answers-last, EndsAtEnd-last}
 use Rattle.notifyd.proofs.play.Play.finish.Goals as goal
 
 pub returns-then-is_between_lines : goal.returns-then-is_between_lines
 returns-then-is_between_lines g c =
-    ended_at_end _ _ _ _ _ InputEnded c.args.self _ _ c.end.ensures.is c.end.ensures.stands c.end.ensures.conserved
-    (HaveCounted-same _)
+    ended_at_end _ _ _ InputEnded c.args.self c.end.ensures.is c.end.ensures.stands c.end.ensures.conserved
+    (IsLater-same _)
     (Answers-no_last _ _ (no_byte _ _ c.is_between_lines.ensures c.if-is_between_lines.true))
 
 pub returns-in-On : goal.returns-in-On
 returns-in-On g c =
     let answers = c.in-On.ensures.answers in
-    ended_at_end _ _ _ _ _ InputEnded c.in-On.play _ _ c.end-in-On.ensures.is c.end-in-On.ensures.stands c.end-in-On.ensures.conserved
-    (record { keeper = answers.plays.counted; sink = answers.plays.sink })
+    ended_at_end _ _ _ InputEnded c.in-On.play c.end-in-On.ensures.is c.end-in-On.ensures.stands c.end-in-On.ensures.conserved
+    (IsLater-answered _ _ _ answers)
     (Answers-last _ _ _ (some_byte _ _ c.is_between_lines.ensures c.if-is_between_lines.false) answers)
 
 pub returns-in-Ended : goal.returns-in-Ended
@@ -22,6 +22,6 @@ returns-in-Ended g c =
     let ended = c.in-Ended.ensures in
     record {
       left = ended.left;
-      counted = ended.counted;
+      later = ended.later;
       ends = EndsAtEnd-last _ _ _ _ (some_byte _ _ c.is_between_lines.ensures c.if-is_between_lines.false) ended.ends;
     }

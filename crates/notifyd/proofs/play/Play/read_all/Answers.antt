@@ -5,7 +5,7 @@ use Rattle.notifyd.proofs.PlayingLemmas.{reads_on_none, reads_on_then, ended_rea
 use Rattle.notifyd.proofs.play.Play.read_all.Goals as goal
 
 pub pieces-init : goal.pieces-init
-pieces-init g c = reads_on_none _ _ c.args.self _ _ _ _
+pieces-init g c = reads_on_none c.args.self _ _
 
 pub read_next-requires : goal.read_next-requires
 read_next-requires g c =
@@ -14,8 +14,8 @@ read_next-requires g c =
 
 pub returns-in-Ended : goal.returns-in-Ended
 returns-in-Ended g c =
-    ended_reading_then _ _ _ _ _ _ _ _ _ _ _ c.pieces.play c.in-Ended.ended _ _ _ _ c.pieces.invariant c.in-Ended.ensures
+    ended_reading_then _ _ _ _ _ _ _ _ _ c.pieces.play c.in-Ended.ended c.pieces.invariant c.in-Ended.ensures
 
 pub pieces-preserved : goal.pieces-preserved
 pieces-preserved g c =
-    reads_on_then _ _ _ _ _ _ _ _ _ _ _ c.pieces.play c.in-On.next _ _ _ _ c.pieces.invariant c.in-On.ensures.0
+    reads_on_then _ _ _ _ _ _ _ _ _ c.pieces.play c.in-On.next c.pieces.invariant c.in-On.ensures.0

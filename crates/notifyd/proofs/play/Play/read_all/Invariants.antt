@@ -5,7 +5,7 @@ use Rattle.notifyd.proofs.play.Play.read_all.Given as goal
 
 abbrev pub invariant-pieces : goal.invariant-pieces
 invariant-pieces g l =
-    ReadsOn g.K.Keeper.kept g.K.Keeper.faults (standing g.K.Keeper.kept g.K.Keeper.faults l.initial.play (g.O.Sink.written l.initial.out) (g.O.Sink.faults l.initial.out)) l.initial.play.under_way l.initial.play.taken (source_seen (g.S.Source.remaining l.initial.source) (g.S.Source.remaining l.source) (g.S.Source.faults l.initial.source) (g.S.Source.faults l.source)) l.play (g.O.Sink.written l.out) (g.O.Sink.faults l.out)
+    ReadsOn (standing l.initial.play) l.initial.play.under_way l.initial.play.taken (source_seen (g.S.Source.remaining l.initial.source) (g.S.Source.remaining l.source) (g.S.Source.faults l.initial.source) (g.S.Source.faults l.source)) l.play
 
 abbrev pub decreases-pieces : goal.decreases-pieces
 decreases-pieces g l = max_script - l.play.taken

@@ -3,7 +3,7 @@ use Rattle.std.proofs.lemmas.List.{length-take-le}
 use Rattle.notifyd.specs.declared.ending.Ending.TheVariants.{SourceFault, TooLong}
 use Rattle.notifyd.specs.Cut.{max_script, begun, cut_on}
 use Rattle.notifyd.specs.Going.{standing, Answers, EndsAmong, GoesOn, left_standing}
-use Rattle.notifyd.proofs.GoingLemmas.{Answers-none, HaveCounted-same}
+use Rattle.notifyd.proofs.GoingLemmas.{Answers-none, IsLater-same, IsLater-answered}
 use Rattle.notifyd.proofs.ReadingLemmas.{Gave-none, Gave-read, at_end, allowed_part, lines_of_none, EndsReading-at_end, EndsReading-among}
 use Rattle.notifyd.proofs.PlayingLemmas.{ended_reading}
 use Rattle.notifyd.proofs.play.Play.read_next.Goals as goal
@@ -11,9 +11,9 @@ use Rattle.notifyd.proofs.play.Play.read_next.Goals as goal
 pub returns-in_default : goal.returns-in_default
 returns-in_default g c =
     let room = c.room-room.ensures in
-    let a = standing g.K.Keeper.kept g.K.Keeper.faults c.args.self (g.O.Sink.written c.args.out.now) (g.O.Sink.faults c.args.out.now) in
+    let a = standing c.args.self in
     let P : List (List ℕ) → Type 0 = λ lines. Answers a lines a in
-    ended_reading _ _ a _ _ _ _ SourceFault c.args.self _ _ [] c.end.ensures.is c.end.ensures.stands c.end.ensures.conserved (omega (arith, room)) (Gave-none _ _ c.in_default.ensures.none_taken) c.read.ensures.count (HaveCounted-same a)
+    ended_reading a _ _ _ _ SourceFault c.args.self [] c.end.ensures.is c.end.ensures.stands c.end.ensures.conserved (omega (arith, room)) (Gave-none _ _ c.in_default.ensures.none_taken) c.read.ensures.count (IsLater-same a)
     (omega (arith, room), subst P (lines_of_none c.args.self.under_way) (Answers-none a), c.in_default.ensures.cause)
 
 pub returns-then-count-eq0 : goal.returns-then-count-eq0
@@ -26,7 +26,7 @@ returns-then-count-eq0 g c =
       gave = Gave-none _ _ ended.0;
       source_counted = c.read.ensures.count;
       left = c.finish.ensures.left;
-      counted = c.finish.ensures.counted;
+      later = c.finish.ensures.later;
       ends = EndsReading-at_end _ _ _ _ _ _ _ _ (omega (arith, room)) ended.1 c.finish.ensures.ends;
     }
 
@@ -37,14 +37,14 @@ returns-in-Ended g c =
     let fits : c.in-Ok.count ≤ length c.read.new.into = omega (arith, c.in-Ok.ensures.within) in
     let within : c.min-within.result ≡ min c.in-Ok.count (max_script - c.args.self.taken) = omega (arith, room, least) in
     let ended = c.in-Ended.ensures in
-    let P : List ℕ → Type 0 = λ bytes. EndsAmong c.in-Ended.ended.ending (standing g.K.Keeper.kept g.K.Keeper.faults c.args.self (g.O.Sink.written c.args.out.now) (g.O.Sink.faults c.args.out.now)) (cut_on (begun c.args.self.under_way) bytes).lines (left_standing g.K.Keeper.kept g.K.Keeper.faults c.in-Ended.ended ended.left.world ended.left.number (g.O.Sink.written c.take_piece.new.out) (g.O.Sink.faults c.take_piece.new.out)) in
+    let P : List ℕ → Type 0 = λ bytes. EndsAmong c.in-Ended.ended.ending (standing c.args.self) (cut_on (begun c.args.self.under_way) bytes).lines (left_standing c.in-Ended.ended ended.left.world ended.left.number) in
     record {
       room = omega (arith, room);
       bytes = take c.in-Ok.count c.read.new.into;
       gave = Gave-read _ _ _ _ c.in-Ok.ensures.taken c.in-Ok.ensures.given;
       source_counted = c.read.ensures.count;
       left = ended.left;
-      counted = ended.counted;
+      later = ended.later;
       ends = EndsReading-among _ _ _ _ _ _ _ _ _ (subst P (sym (allowed_part _ _ _ _ within fits)) ended.ends);
     }
 
@@ -55,10 +55,10 @@ returns-then-within-count g c =
     let fits : c.in-Ok.count ≤ length c.read.new.into = omega (arith, c.in-Ok.ensures.within) in
     let within : c.min-within.result ≡ min c.in-Ok.count (max_script - c.args.self.taken) = omega (arith, room, least) in
     let answers = c.in-On.ensures.answers in
-    let a = standing g.K.Keeper.kept g.K.Keeper.faults c.args.self (g.O.Sink.written c.args.out.now) (g.O.Sink.faults c.args.out.now) in
-    let b = standing g.K.Keeper.kept g.K.Keeper.faults c.in-On.play (g.O.Sink.written c.take_piece.new.out) (g.O.Sink.faults c.take_piece.new.out) in
+    let a = standing c.args.self in
+    let b = standing c.in-On.play in
     let P : List ℕ → Type 0 = λ bytes. Answers a (cut_on (begun c.args.self.under_way) bytes).lines b in
-    ended_reading _ _ a _ _ _ _ TooLong c.in-On.play _ _ (take c.in-Ok.count c.read.new.into) c.end-then-within-count.ensures.is c.end-then-within-count.ensures.stands c.end-then-within-count.ensures.conserved (omega (arith, room)) (Gave-read _ _ _ _ c.in-Ok.ensures.taken c.in-Ok.ensures.given) c.read.ensures.count (record { keeper = answers.plays.counted; sink = answers.plays.sink })
+    ended_reading a _ _ _ _ TooLong c.in-On.play (take c.in-Ok.count c.read.new.into) c.end-then-within-count.ensures.is c.end-then-within-count.ensures.stands c.end-then-within-count.ensures.conserved (omega (arith, room)) (Gave-read _ _ _ _ c.in-Ok.ensures.taken c.in-Ok.ensures.given) c.read.ensures.count (IsLater-answered a b _ answers)
     (omega (arith, room, least, c.if-within-count.true, length-take-le c.in-Ok.count c.read.new.into fits), subst P (sym (allowed_part _ _ _ _ within fits)) answers)
 
 pub returns-else-within-count : goal.returns-else-within-count
@@ -68,7 +68,7 @@ returns-else-within-count g c =
     let some = c.if-count-eq0.false in
     let fits : c.in-Ok.count ≤ length c.read.new.into = omega (arith, c.in-Ok.ensures.within) in
     let whole : c.min-within.result ≡ c.in-Ok.count = omega (arith, least, c.if-within-count.false) in
-    let P : ℕ → Type 0 = λ n. GoesOn g.K.Keeper.kept g.K.Keeper.faults (standing g.K.Keeper.kept g.K.Keeper.faults c.args.self (g.O.Sink.written c.args.out.now) (g.O.Sink.faults c.args.out.now)) (cut_on (begun c.args.self.under_way) (take n c.read.new.into)).lines (cut_on (begun c.args.self.under_way) (take n c.read.new.into)).rest (c.args.self.taken + length (take n c.read.new.into)) c.in-On.play (g.O.Sink.written c.take_piece.new.out) (g.O.Sink.faults c.take_piece.new.out) in
+    let P : ℕ → Type 0 = λ n. GoesOn (standing c.args.self) (cut_on (begun c.args.self.under_way) (take n c.read.new.into)).lines (cut_on (begun c.args.self.under_way) (take n c.read.new.into)).rest (c.args.self.taken + length (take n c.read.new.into)) c.in-On.play in
     let goes = subst P whole c.in-On.ensures in
     let count = goes.count in
     let many = length-take-le c.in-Ok.count c.read.new.into fits in

@@ -6,7 +6,7 @@ use Rattle.notifyd.proofs.play.Play.take_piece.Goals as goal
 use Rattle.notifyd.proofs.play.Play.take_piece.Goals.{then-add+in-On, else-add}
 
 pub loop-byte-init : goal.loop-byte-init
-loop-byte-init g c = goes_on_none _ _ c.args.self _ _
+loop-byte-init g c = goes_on_none c.args.self
 
 pub add-requires-clause-short : goal.add-requires-clause-short
 add-requires-clause-short g c =
@@ -15,12 +15,12 @@ add-requires-clause-short g c =
 
 pub returns-in-Ended : goal.returns-in-Ended
 returns-in-Ended g c =
-    ended_line _ _ _ c.args.self.under_way c.args.piece.now c.loop-byte.byte-index c.args.self.taken c.loop-byte.play c.add.new.self c.in-Ended.ended (g.O.Sink.written c.loop-byte.out) _ (g.O.Sink.faults c.loop-byte.out) _
+    ended_line _ c.args.self.under_way c.args.piece.now c.loop-byte.byte-index c.args.self.taken c.loop-byte.play c.add.new.self c.in-Ended.ended
     c.loop-byte-test.true c.loop-byte.invariant c.add.ensures.is (sym c.add.ensures.complete ∙ c.if-add.true) c.in-Ended.ensures
 
 pub loop-byte-preserved : goal.loop-byte-preserved
 loop-byte-preserved g c =
     elim c.if-add.branch [
-      | then-add+in-On w ↦ rw (w.play-is, w.out-is) (goes_on_line _ _ _ c.args.self.under_way c.args.piece.now c.loop-byte.byte-index c.args.self.taken c.loop-byte.play c.add.new.self w.in-On.next (g.O.Sink.written c.loop-byte.out) _ (g.O.Sink.faults c.loop-byte.out) _ c.loop-byte-test.true c.loop-byte.invariant c.add.ensures.is (sym c.add.ensures.complete ∙ w.if-add.true) w.in-On.ensures)
-      | else-add w ↦ rw (w.play-is, w.out-is) (goes_on_open _ _ _ c.args.self.under_way c.args.piece.now c.loop-byte.byte-index c.args.self.taken c.loop-byte.play c.add.new.self _ _ c.loop-byte-test.true c.loop-byte.invariant c.add.ensures.is (sym c.add.ensures.complete ∙ w.if-add.false))
+      | then-add+in-On w ↦ rw w.play-is (goes_on_line _ c.args.self.under_way c.args.piece.now c.loop-byte.byte-index c.args.self.taken c.loop-byte.play c.add.new.self w.in-On.next c.loop-byte-test.true c.loop-byte.invariant c.add.ensures.is (sym c.add.ensures.complete ∙ w.if-add.true) w.in-On.ensures)
+      | else-add w ↦ rw w.play-is (goes_on_open _ c.args.self.under_way c.args.piece.now c.loop-byte.byte-index c.args.self.taken c.loop-byte.play c.add.new.self c.loop-byte-test.true c.loop-byte.invariant c.add.ensures.is (sym c.add.ensures.complete ∙ w.if-add.false))
     ]

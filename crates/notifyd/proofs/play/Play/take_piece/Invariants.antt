@@ -5,4 +5,4 @@ use Rattle.notifyd.proofs.play.Play.take_piece.Given as goal
 
 abbrev pub invariant-loop-byte : goal.invariant-loop-byte
 invariant-loop-byte g l =
-    GoesOn g.K.Keeper.kept g.K.Keeper.faults (standing g.K.Keeper.kept g.K.Keeper.faults l.initial.play (g.O.Sink.written l.initial.out) (g.O.Sink.faults l.initial.out)) (cut_on (begun l.initial.play.under_way) (take l.byte-index l.piece)).lines (cut_on (begun l.initial.play.under_way) (take l.byte-index l.piece)).rest (l.initial.play.taken + l.byte-index) l.play (g.O.Sink.written l.out) (g.O.Sink.faults l.out)
+    GoesOn (standing l.initial.play) (cut_on (begun l.initial.play.under_way) (take l.byte-index l.piece)).lines (cut_on (begun l.initial.play.under_way) (take l.byte-index l.piece)).rest (l.initial.play.taken + l.byte-index) l.play

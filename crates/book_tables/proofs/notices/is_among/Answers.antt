@@ -1,0 +1,6 @@
+use Rattle.std.proofs.Common.{◌∙◌}
+use Rattle.book_tables.proofs.SetPlaces.{search-has}
+use Rattle.book_tables.proofs.notices.is_among.Goals as goal
+
+pub returns : goal.returns
+returns c = λ up. c.is_ok.ensures.value ∙ search-has c.args.users.now c.args.user c.binary_search.result up c.binary_search.ensures.bound c.binary_search.ensures.position
