@@ -24,7 +24,7 @@ use Rattle.notice_ledger.specs.Past.Owed.{owed_by}
 use Rattle.book_tables.specs.declared.tables.Message.{Message}
 use Rattle.book_tables.specs.declared.tables.Tables.{Tables}
 use Rattle.book_tables.specs.declared.topic_key.TopicKey.{TopicKey}
-use Rattle.book_tables.specs.Tables.{Holds, message_kept, notice_kept, send_of, owed_user}
+use Rattle.book_tables.specs.Tables.{Holds, message_kept, in_flight, send_of, owed_user}
 use Rattle.book_tables.specs.Gathered.{topic_of, owed_there}
 use Rattle.book_tables.proofs.Numbered.{slice_get-past}
 use Rattle.book_tables.proofs.Following.{owed-none, owed-users}
@@ -124,7 +124,7 @@ nothing false xs e = refl
 
 module _ (t : Tables) (past : List Stamped) (holds : Holds t past) where
   -- what the message owes those to whom it goes, one after another, is what it owes
-  pub owed-addressed : (at : ℕ) (k : Message) (us : List UserId) → is_ascending us ≡ true → ((u : UserId) → is_one_of us u ≡ goes_to past k.to u) → flat_map (owed_there past at k) us ≡ map notice_kept (owed_by (occurrence past (send_of at k)))
+  pub owed-addressed : (at : ℕ) (k : Message) (us : List UserId) → is_ascending us ≡ true → ((u : UserId) → is_one_of us u ≡ goes_to past k.to u) → flat_map (owed_there past at k) us ≡ map in_flight (owed_by (occurrence past (send_of at k)))
   owed-addressed at k us up goes =
       let many = length (people past) in let long : suc many ≡ 0 + suc many = omega arith in
       let behind : (u : UserId) → suc many ≤ u.0 → owed_there past at k u ≡ [] = λ u high. ap (λ b. if b then owed_user past at k u else []) (ap is_some (numbered_past (people past) u.0 (omega arith))) in
@@ -132,7 +132,7 @@ module _ (t : Tables) (past : List Stamped) (holds : Holds t past) where
       nothing (is_user past u) (owed_user past at k u) (owed-none past at k u (ap (λ b. b && not (u.0 == k.sender.0)) (sym (goes u) ∙ out))) in
       over_some (owed_there past at k) 0 (suc many) (suc many) long behind us up (from_zero us) others
       ∙ (over_there (owed_user past at k) (is_user past) 1 many (λ u low high. numbered_there (people past) u.0 low high)
-      ∙ owed-users t past holds at k)
+      ∙ owed-users t past holds at k (users past) refl)
     where
       from_zero : (vs : List UserId) → AllByRecursion (λ v. 0 ≤ v.0) vs
       from_zero [] = tt

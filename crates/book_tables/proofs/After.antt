@@ -9,13 +9,21 @@ use Rattle.std.proofs.lemmas.Bool.{and_parts}
 use Rattle.std.proofs.lemmas.Bool.Decides.{eqb_tells}
 use Rattle.chat_model.specs.declared.event.Stamped.{Stamped}
 use Rattle.chat_model.specs.declared.event.Event.{Event}
-use Rattle.chat_model.specs.declared.event.Event.TheVariants.{Restart, Asked, MailTurn}
+use Rattle.chat_model.specs.declared.event.Event.TheVariants.{Restart, Asked, Absorbed, MailTurn}
 use Rattle.chat_model.specs.declared.request.Request.TheVariants.{AddUser, AddGroup, Member, AddChannel, Subscribe, Set, SetChannel, SetPolicy, Mute, Send, Direct}
 use Rattle.chat_model.specs.declared.request.Request.{Request}
 use Rattle.chat_model.specs.declared.request.Refusal.{Refusal}
 use Rattle.chat_model.specs.declared.request.Refusal.TheVariants.{NoUser, NoChannel, NoGroup, Exists, TopicTooLong, TooMany}
 use Rattle.chat_model.specs.declared.row.Cause.TheVariants.{SwitchedOff}
-use Rattle.notice_ledger.specs.declared.accounts.Account.TheVariants.{Cancelled}
+use Rattle.notice_ledger.specs.declared.accounts.Account.TheVariants.{Cancelled, LiveQueue}
+use Rattle.chat_model.specs.declared.deal.Outcome.{Outcome}
+use Rattle.chat_model.specs.declared.deal.Outcome.TheVariants.{Dealt, Cleared, Missed}
+use Rattle.chat_model.specs.declared.deal.QueueId.{QueueId}
+use Rattle.chat_model.specs.declared.deal.UserVerdict.{UserVerdict}
+use Rattle.chat_model.specs.declared.ids.DealNo.{DealNo}
+use Rattle.chat_model.specs.Outcomes.{is_dealt}
+use Rattle.std.proofs.Math.Bool.{and-false}
+use Rattle.std.specs.List.{filter_map}
 use Rattle.chat_model.specs.declared.ids.UserId.{UserId}
 use Rattle.chat_model.specs.declared.ids.ChannelId.{ChannelId}
 use Rattle.chat_model.specs.declared.ids.GroupId.{GroupId}
@@ -23,29 +31,28 @@ use Rattle.chat_model.specs.declared.deal.Deal.{Deal}
 use Rattle.chat_model.specs.declared.entry.Entry.{Entry}
 use Rattle.chat_model.specs.declared.mentions.UserName.{UserName}
 use Rattle.chat_model.specs.declared.mentions.GroupName.{GroupName}
-use Rattle.chat_model.specs.declared.trigger.Way.{Way}
-use Rattle.chat_model.specs.declared.trigger.Way.TheVariants.{Mail, Push}
-use Rattle.notice_ledger.specs.Past.Journal.{occurrence}
+use Rattle.chat_model.specs.declared.trigger.Way.TheVariants.{Mail}
+use Rattle.notice_ledger.specs.Past.Journal.{occurrence, absorbs}
 use Rattle.notice_ledger.specs.declared.destination.Destination.{Destination}
 use Rattle.notice_ledger.specs.declared.destination.Destination.TheVariants as destination
 use Rattle.notice_ledger.specs.Past.Values.{numbered, Person, person_of, setting_change, specific_change, policy_change, mute_change, people, named_from, user_names, is_one_of, group_of, groups, named_groups_from, group_names, is_group, membership_change, is_member, channel_of, channels, is_user, is_channel, SentMessage, message_of, messages, subscription_change, subscribed}
-use Rattle.notice_ledger.specs.Past.Owed.{Notice, waiting, owed_by, is_mail_turn_of, is_turn_of, switch_on, account_of}
+use Rattle.notice_ledger.specs.Past.Owed.{readies, clears, waiting, owed_by, is_mail_turn_of, switch_on, account_of}
 use Rattle.notice_ledger.specs.Past.Deals.{deal_of, deals}
 use Rattle.notice_ledger.specs.Past.Runs.{is_restart, start_count}
 use Rattle.notice_ledger.specs.Past.Due.{batch_rows}
-use Rattle.notice_ledger.specs.Past.Outbox.{outbox, entries_by, mail_entry, mail_entries, by_message}
+use Rattle.notice_ledger.specs.Past.Outbox.{outbox, entries_by, mailed, mail_entry, mail_entries, by_message}
 use Rattle.notice_ledger.specs.Past.Audit.{in_64_bits, owed_with, same_account}
-use Rattle.notice_ledger.proofs.Audited.{switched_off, switched_off-append}
+use Rattle.notice_ledger.proofs.Audited.{switched_off, switched_off-append, cleared_live, cleared_live-append, is_turned}
 use Rattle.notice_ledger.specs.Past.Refusals.{Rule, rule, first_broken, name_rules, rules_of, refusal, is_taken}
 use Rattle.notice_ledger.specs.Limits.{longest_topic, most_items}
 use Rattle.notice_ledger.specs.Texts.{is_longer_than}
 use Rattle.notice_ledger.specs.InOrder.{is_ascending, is_in_order}
 use Rattle.notice_ledger.specs.Past.Lawful.{may_stand, is_lawful_after}
 use Rattle.notice_ledger.specs.Past.Journal.{last_stamp}
-use Rattle.notice_ledger.proofs.Lists.{filter_all, filter_none}
+use Rattle.notice_ledger.proofs.Lists.{filter_none}
 use Rattle.notice_ledger.proofs.Appended.{notices-nil, people-nil, people-append, groups-nil, groups-append, is_member-nil, is_member-append, channels-nil, channels-append, messages-nil, messages-append, subscribed-nil, subscribed-append, outbox-nil, outbox-append, last_stamp-append}
-use Rattle.notice_ledger.proofs.Waiting.{is_turn, waiting-nil, waiting-append}
-use Rattle.notice_ledger.proofs.Batches.{is_mail_of, filter_same, batch_rows-waiting, by_message-batch_rows}
+use Rattle.notice_ledger.proofs.Waiting.{waiting-nil, waiting-pending}
+use Rattle.notice_ledger.proofs.Batches.{is_mail_of, is_ready, is_ready_mail_of, filter_same, batch_rows-waiting, by_message-mailed}
 use Rattle.notice_ledger.proofs.DealLemmas.{deals-nil, deals-append, start_count-nil, start_count-append}
 use Rattle.book_tables.specs.declared.tables.Message.{Message}
 use Rattle.book_tables.specs.declared.tables.Waiting.{Waiting}
@@ -56,11 +63,14 @@ use Rattle.book_tables.specs.UserSets.{users_in, has_in, users_after, changed_at
 use Rattle.book_tables.specs.declared.preferences.Preference.{Preference}
 use Rattle.book_tables.specs.declared.preferences.Preference.TheVariants as preference
 use Rattle.book_tables.specs.Preferences.{Preferred, default_preferred, preferred, preferred_in, preferred_by, preferred_after}
-use Rattle.book_tables.specs.Tables.{Holds, message_kept, notice_kept, is_mail_to, request_to, switched_at}
-use Rattle.book_tables.specs.Prepared.{IsEffectOf, IsGroup, IsMessage, IsMailed, IsSendOf}
-use Rattle.book_tables.specs.Applied.{starts_after, names_after, bots_after, preferences_after, groups_after, members_after, channels_after, subscribers_after, messages_after, waiting_after, deals_after, outbox_after, off_after, IsApplied, HoldTheSame}
-use Rattle.book_tables.proofs.Standing.{filter-map}
-use Rattle.book_tables.proofs.Following.{turn_of_mail}
+use Rattle.book_tables.specs.Tables.{Holds, message_kept, notice_kept, in_flight, request_to, switched_at}
+use Rattle.book_tables.specs.Notices.{is_ready_mail_to, of_deal, dealt_to, IsInOrder}
+use Rattle.book_tables.specs.Prepared.{IsEffectOf, IsGroup, IsMessage, IsMailed, IsDealt, IsSendOf}
+use Rattle.book_tables.specs.Applied.{starts_after, names_after, bots_after, preferences_after, groups_after, members_after, channels_after, subscribers_after, messages_after, is_cleared, waiting_after, live_after, deals_after, outbox_after, off_after, IsApplied, HoldTheSame}
+use Rattle.book_tables.proofs.Cancelled.{turn_of_mail, none_cleared_now, cleared_so}
+use Rattle.book_tables.proofs.Ordered.{waiting-ordered}
+use Rattle.book_tables.proofs.Moves.{step, kept-append, never_turn, steps_left, steps_start, steps_mails, steps_cleared, steps_missed, steps_dealt}
+use Rattle.book_tables.proofs.RowsAfter.{all_kept}
 use Rattle.book_tables.proofs.PreferenceLemmas.{at_number, preferred_in-list, at_number-added, at_number-changed, preferred_by-nil, preferred_by-left, IsPreferredAfter, after-setting, after-specific, after-policy, after-mute}
 use Rattle.book_tables.proofs.UserSets.{is_in, has_in-sets, is_in-added, is_in-changed}
 use Rattle.book_tables.proofs.SetSizes.{are_grown, are_added, are_changed, are_user_sets, numbered-within, user_within, ascending_set}
@@ -146,6 +156,7 @@ same_stands old new j stands same = record {
   deals = same.deals ∙ stands.deals;
   outbox = same.outbox ∙ stands.outbox;
   off = same.off ∙ stands.off;
+  live = same.live ∙ stands.live;
 }
 
 -- ---- what an effect has to make of each table: what the event makes of what the table holds
@@ -200,11 +211,12 @@ record MessagesAgree (j : List Stamped) (s : Stamped) (e : Effect) : Type 0 wher
   sent : map message_kept (messages (j ++ s ∷ [])) ≡ messages_after e (map message_kept (messages j))
   dealt : deals (j ++ s ∷ []) ≡ deals_after e (deals j)
 
--- what waits, what was handed and what was switched off
+-- what waits, what was handed, what was switched off and what was cleared
 record NoticesAgree (j : List Stamped) (s : Stamped) (e : Effect) : Type 0 where
-  wait : map notice_kept (waiting (j ++ s ∷ [])) ≡ waiting_after e (map notice_kept (waiting j))
+  wait : all_kept (j ++ s ∷ []) ≡ waiting_after s.at e (all_kept j)
   handed : outbox (j ++ s ∷ []) ≡ outbox_after e (outbox j)
   off : in_64_bits (switched_off (j ++ s ∷ [])) ≡ off_after e (in_64_bits (switched_off j))
+  live : in_64_bits (cleared_live (j ++ s ∷ [])) ≡ live_after e (all_kept j) (in_64_bits (cleared_live j))
 
 -- the effect makes of all tables what the event makes of them
 record Agrees (j : List Stamped) (s : Stamped) (e : Effect) : Type 0 where
@@ -216,8 +228,9 @@ record Agrees (j : List Stamped) (s : Stamped) (e : Effect) : Type 0 where
   of_notices : NoticesAgree j s e
 
 -- tables to which such an effect was made stand for the journal with the event
-agreed : (old new : Tables) (j : List Stamped) → Holds old j → (s : Stamped) (e : Effect) → Agrees j s e → IsApplied old new e → new.last ≡ s.at → Holds new (j ++ s ∷ [])
+agreed : (old new : Tables) (j : List Stamped) → Holds old j → (s : Stamped) (e : Effect) → Agrees j s e → IsApplied old new s.at e → new.last ≡ s.at → Holds new (j ++ s ∷ [])
 agreed old new j stands s e agrees applied last =
+    let order : IsInOrder old.waiting.items = subst IsInOrder (sym stands.waiting) (waiting-ordered j) in
     let users = agrees.of_users in let members = agrees.of_groups.sets in let subscribers = agrees.of_channels.sets in
     let all = map preferred old.preferences.items in
     let in_groups = map users_in old.members.items in let in_channels = map users_in old.subscribers.items in
@@ -244,15 +257,23 @@ agreed old new j stands s e agrees applied last =
       subscriber_sets = are_user_sets (length (channels (j ++ s ∷ []))) (length (people (j ++ s ∷ []))) new.subscribers.items (subscribers_after e in_channels) applied.subscribers (subscribers.count in_channels channels_long) (subscribers.are in_channels stands.subscriber_sets.sets);
       channels = applied.channels ∙ (ap (channels_after e) stands.channels ∙ sym agrees.of_channels.named);
       messages = applied.messages ∙ (ap (messages_after e) stands.messages ∙ sym agrees.of_messages.sent);
-      waiting = applied.waiting ∙ (ap (waiting_after e) stands.waiting ∙ sym agrees.of_notices.wait);
+      waiting = applied.waiting order ∙ (ap (waiting_after s.at e) stands.waiting ∙ sym agrees.of_notices.wait);
       deals = applied.deals ∙ (ap (deals_after e) stands.deals ∙ sym agrees.of_messages.dealt);
       outbox = applied.outbox ∙ (ap (outbox_after e) stands.outbox ∙ sym agrees.of_notices.handed);
       off = applied.off ∙ (ap (off_after e) stands.off ∙ sym agrees.of_notices.off);
+      live = applied.live order ∙ ((λ i. live_after e (stands.waiting i) (stands.live i)) ∙ sym agrees.of_notices.live);
     }
 
 -- a count at the end of 64 bits stands still
 added : (n m : ℕ) → min (min n (2 ^ 64 - 1) + m) (2 ^ 64 - 1) ≡ min (n + m) (2 ^ 64 - 1)
 added n m = omega arith
+
+-- an event that is nothing to a notice that waits: no turn, and it makes none ready, clears none and absorbs no deal
+record IsCalm (s : Stamped) : Type 0 where
+  never : (u : UserId) → is_mail_turn_of u s.event ≡ false
+  not_ready : (u : UserId) (k : DealNo) (online : Bool) → readies u k online s.event ≡ false
+  not_cleared : (u : UserId) (k : DealNo) → clears u k s.event ≡ false
+  not_dealt : (k : DealNo) → absorbs (is_dealt k) s.event ≡ false
 
 -- ---- what an event of another kind leaves
 
@@ -307,31 +328,42 @@ module _ (j : List Stamped) (s : Stamped) (e : Effect) where
     dealt = deals-append j s ∙ (ap (λ o. deals j ++ option_to_list (option_map (λ m. deal_of (occurrence j s)) o)) none ∙ (append-nil (deals j) ∙ sym (same_deals (deals j))));
   }
 
-  -- nothing has its turn
-  no_turn : ((u : UserId) → is_mail_turn_of u s.event ≡ false) → (n : Notice) → is_turn s n ≡ false
-  no_turn never n = by n.user n.way
-    where
-      by : (u : UserId) (w : Way) → is_turn_of u w s.event ≡ false
-      by u Mail = never u
-      by u Push = refl
-
-  more_waiting : ((u : UserId) → is_mail_turn_of u s.event ≡ false) → waiting (j ++ s ∷ []) ≡ waiting j ++ owed_by (occurrence j s)
-  more_waiting never = waiting-append j s ∙ ap (λ ns. ns ++ owed_by (occurrence j s)) (filter_all (λ n. not (is_turn s n)) (λ n. ap not (no_turn never n)) (waiting j))
-
+  -- nothing is handed over or switched off
   none_off : ((u : UserId) → is_mail_turn_of u s.event ≡ false) → entries_by j s.at s.event ≡ [] → switched_off (j ++ s ∷ []) ≡ switched_off j
   none_off never none =
       let all = switched_off-append j s in
       let no_entry = ap length none in
-      let turned = ap length (filter_none (is_turn s) (no_turn never) (waiting j)) in
+      let turned = ap length (filter_none (is_turned j s) (λ n. ap (λ b. is_ready j n && b) (never_turn s never n.user n.way) ∙ and-false (is_ready j n)) (waiting j)) in
       omega (arith, all, no_entry, turned)
 
-  notices_left : ((u : UserId) → is_mail_turn_of u s.event ≡ false) → owed_by (occurrence j s) ≡ [] → entries_by j s.at s.event ≡ []
-      → ((ws : List Waiting) → waiting_after e ws ≡ ws) → ((es : List Entry) → outbox_after e es ≡ es) → ((n : ℕ) → off_after e n ≡ n) → NoticesAgree j s e
-  notices_left never none no_entry same_waiting same_outbox same_off = record {
-    wait = ap (map notice_kept) (more_waiting never ∙ (ap (λ ns. waiting j ++ ns) none ∙ append-nil (waiting j))) ∙ sym (same_waiting (map notice_kept (waiting j)));
+  -- nothing is cleared
+  none_cleared : ((u : UserId) (k : DealNo) → clears u k s.event ≡ false) → cleared_live (j ++ s ∷ []) ≡ cleared_live j
+  none_cleared not_cleared =
+      let all = cleared_live-append j s in let cleared = none_cleared_now j s not_cleared (waiting j) (waiting-pending j) in
+      omega (arith, all, cleared)
+
+  -- what waits after an event that owes nothing
+  all_moved : owed_by (occurrence j s) ≡ [] → all_kept (j ++ s ∷ []) ≡ filter_map (step s) (all_kept j)
+  all_moved none = kept-append j s ∙ (ap (λ ns. filter_map (step s) (all_kept j) ++ map in_flight ns) none ∙ append-nil (filter_map (step s) (all_kept j)))
+
+  -- an event that owes nothing, is no turn and clears nothing
+  notices_moved : ((u : UserId) → is_mail_turn_of u s.event ≡ false) → ((u : UserId) (k : DealNo) → clears u k s.event ≡ false) → owed_by (occurrence j s) ≡ [] → entries_by j s.at s.event ≡ []
+      → ((ws : List Waiting) → waiting_after s.at e ws ≡ filter_map (step s) ws) → ((es : List Entry) → outbox_after e es ≡ es) → ((n : ℕ) → off_after e n ≡ n) → ((ws : List Waiting) (n : ℕ) → live_after e ws n ≡ n) → NoticesAgree j s e
+  notices_moved never not_cleared none no_entry moved_so same_outbox same_off same_live = record {
+    wait = all_moved none ∙ sym (moved_so (all_kept j));
     handed = outbox-append j s ∙ (ap (λ es. outbox j ++ es) no_entry ∙ (append-nil (outbox j) ∙ sym (same_outbox (outbox j))));
     off = ap in_64_bits (none_off never no_entry) ∙ sym (same_off (in_64_bits (switched_off j)));
+    live = ap in_64_bits (none_cleared not_cleared) ∙ sym (same_live (all_kept j) (in_64_bits (cleared_live j)));
   }
+
+  notices_left : IsCalm s → owed_by (occurrence j s) ≡ [] → entries_by j s.at s.event ≡ []
+      → ((ws : List Waiting) → waiting_after s.at e ws ≡ ws) → ((es : List Entry) → outbox_after e es ≡ es) → ((n : ℕ) → off_after e n ≡ n) → ((ws : List Waiting) (n : ℕ) → live_after e ws n ≡ n) → NoticesAgree j s e
+  notices_left calm none no_entry same_waiting same_outbox same_off same_live =
+      notices_moved calm.never calm.not_cleared none no_entry (λ ws. same_waiting ws ∙ sym (steps_left s calm.never calm.not_ready calm.not_cleared calm.not_dealt ws)) same_outbox same_off same_live
+
+-- a request is nothing to a notice that waits
+calm_asked : (at : ℕ) (r : Request) → IsCalm (record { at = at; event = Asked r })
+calm_asked at r = record { never = λ u. refl; not_ready = λ u k online. refl; not_cleared = λ u k. refl; not_dealt = λ k. refl }
 
 -- ---- each event
 
@@ -345,7 +377,7 @@ module _ (j : List Stamped) where
         of_groups = groups_left j s e refl (λ g u. refl) (still_sets j s e refl) (λ gs. refl) (λ sets. refl);
         of_channels = channels_left j s e refl (λ u c. refl) (still_sets j s e refl) (λ cs. refl) (λ sets. refl);
         of_messages = messages_left j s e refl (λ ms. refl) (λ ds. refl);
-        of_notices = notices_left j s e (λ u. refl) refl refl (λ ws. refl) (λ es. refl) (λ n. refl);
+        of_notices = notices_moved j s e (λ u. refl) (λ u k. refl) refl refl (λ ws. sym (steps_start at ws)) (λ es. refl) (λ n. refl) (λ ws n. refl);
       }
 
   agrees_user : (at : ℕ) (name : List ℕ) (bot : Bool) → Agrees j (record { at = at; event = Asked (AddUser name bot) }) (effect.User (record { id = record { 0 = length (people j) + 1 }; name = name }) bot)
@@ -367,7 +399,7 @@ module _ (j : List Stamped) where
         of_groups = groups_left j s e refl (λ g u. refl) grown (λ gs. refl) (λ sets. refl);
         of_channels = channels_left j s e refl (λ u c. refl) grown (λ cs. refl) (λ sets. refl);
         of_messages = messages_left j s e refl (λ ms. refl) (λ ds. refl);
-        of_notices = notices_left j s e (λ u. refl) refl refl (λ ws. refl) (λ es. refl) (λ n. refl);
+        of_notices = notices_left j s e (calm_asked at (AddUser name bot)) refl refl (λ ws. refl) (λ es. refl) (λ n. refl) (λ ws n. refl);
       }
 
   agrees_group : (at : ℕ) (name : List ℕ) (members : List UserId) (e : Effect) → list_all (is_user j) members ≡ true → is_ascending members ≡ true
@@ -379,6 +411,9 @@ module _ (j : List Stamped) where
   agrees_group at name members (effect.Subscription ch user on) there ascending fits = absurd fits
   agrees_group at name members (effect.Preference user change) there ascending fits = absurd fits
   agrees_group at name members (effect.Message message new_waiting deal) there ascending fits = absurd fits
+  agrees_group at name members (effect.Dealt d idle live) there ascending fits = absurd fits
+  agrees_group at name members (effect.Cleared u ds) there ascending fits = absurd fits
+  agrees_group at name members (effect.Missed u ds) there ascending fits = absurd fits
   agrees_group at name members (effect.Mailed user entries off) there ascending fits = absurd fits
   agrees_group at name members (effect.Group group set) there ascending fits =
       let s : Stamped = record { at = at; event = Asked (AddGroup name members) } in
@@ -402,7 +437,7 @@ module _ (j : List Stamped) where
         };
         of_channels = channels_left j s e refl (λ u c. refl) (still_sets j s e refl) (λ cs. refl) (λ sets. refl);
         of_messages = messages_left j s e refl (λ ms. refl) (λ ds. refl);
-        of_notices = notices_left j s e (λ u. refl) refl refl (λ ws. refl) (λ es. refl) (λ n. refl);
+        of_notices = notices_left j s e (calm_asked at (AddGroup name members)) refl refl (λ ws. refl) (λ es. refl) (λ n. refl) (λ ws n. refl);
       }
     where
       chosen : (b x y : Bool) → unwrap_or (if b then Some x else None) y ≡ cond b x y
@@ -420,7 +455,7 @@ module _ (j : List Stamped) where
         of_groups = record { named = ap (named_groups_from 1) (same_groups j s e refl); sets = changed };
         of_channels = channels_left j s e refl (λ u c. refl) (still_sets j s e refl) (λ cs. refl) (λ sets. refl);
         of_messages = messages_left j s e refl (λ ms. refl) (λ ds. refl);
-        of_notices = notices_left j s e (λ u. refl) refl refl (λ ws. refl) (λ es. refl) (λ n. refl);
+        of_notices = notices_left j s e (calm_asked at (Member h v on)) refl refl (λ ws. refl) (λ es. refl) (λ n. refl) (λ ws n. refl);
       }
 
   agrees_channel : (at : ℕ) (name : List ℕ) → Agrees j (record { at = at; event = Asked (AddChannel name) }) (effect.Channel name)
@@ -440,7 +475,7 @@ module _ (j : List Stamped) where
           };
         };
         of_messages = messages_left j s e refl (λ ms. refl) (λ ds. refl);
-        of_notices = notices_left j s e (λ u. refl) refl refl (λ ws. refl) (λ es. refl) (λ n. refl);
+        of_notices = notices_left j s e (calm_asked at (AddChannel name)) refl refl (λ ws. refl) (λ es. refl) (λ n. refl) (λ ws n. refl);
       }
 
   agrees_subscription : (at : ℕ) (v : UserId) (h : ChannelId) (on : Bool) → is_user j v ≡ true → is_channel j h ≡ true → Agrees j (record { at = at; event = Asked (Subscribe v h on) }) (effect.Subscription h v on)
@@ -454,24 +489,27 @@ module _ (j : List Stamped) where
         of_groups = groups_left j s e refl (λ g u. refl) (still_sets j s e refl) (λ gs. refl) (λ sets. refl);
         of_channels = record { named = same_channels j s e refl; sets = changed };
         of_messages = messages_left j s e refl (λ ms. refl) (λ ds. refl);
-        of_notices = notices_left j s e (λ u. refl) refl refl (λ ws. refl) (λ es. refl) (λ n. refl);
+        of_notices = notices_left j s e (calm_asked at (Subscribe v h on)) refl refl (λ ws. refl) (λ es. refl) (λ n. refl) (λ ws n. refl);
       }
 
   -- an event that sends a message
   agrees_sent : (s : Stamped) (m : SentMessage) → message_of (occurrence j s) ≡ Some m
       → is_restart s.event ≡ false → person_of s.event ≡ None → group_of s.event ≡ None → channel_of s.event ≡ None → ((g : GroupId) (u : UserId) → membership_change g u j s.event ≡ None) → ((u : UserId) (c : ChannelId) → subscription_change u c s.event ≡ None)
       → ((u : UserId) → setting_change u s.event ≡ None) → ((u : UserId) (c : ChannelId) → specific_change u c s.event ≡ None) → ((u : UserId) (c : ChannelId) (topic : List ℕ) → policy_change u c topic s.event ≡ None) → ((u v : UserId) → mute_change u v s.event ≡ None)
-      → ((u : UserId) → is_mail_turn_of u s.event ≡ false) → entries_by j s.at s.event ≡ []
-      → (e : Effect) → IsMessage e (message_kept m) (map notice_kept (owed_by (occurrence j s))) (deal_of (occurrence j s)) → Agrees j s e
-  agrees_sent s m sends no_start nobody no_group no_channel no_member no_subscription no_setting no_specific no_policy no_mute never no_entry effect.Start fits = absurd fits
-  agrees_sent s m sends no_start nobody no_group no_channel no_member no_subscription no_setting no_specific no_policy no_mute never no_entry (effect.User user bot) fits = absurd fits
-  agrees_sent s m sends no_start nobody no_group no_channel no_member no_subscription no_setting no_specific no_policy no_mute never no_entry (effect.Group group members) fits = absurd fits
-  agrees_sent s m sends no_start nobody no_group no_channel no_member no_subscription no_setting no_specific no_policy no_mute never no_entry (effect.Membership group user on) fits = absurd fits
-  agrees_sent s m sends no_start nobody no_group no_channel no_member no_subscription no_setting no_specific no_policy no_mute never no_entry (effect.Channel name) fits = absurd fits
-  agrees_sent s m sends no_start nobody no_group no_channel no_member no_subscription no_setting no_specific no_policy no_mute never no_entry (effect.Subscription ch user on) fits = absurd fits
-  agrees_sent s m sends no_start nobody no_group no_channel no_member no_subscription no_setting no_specific no_policy no_mute never no_entry (effect.Preference user change) fits = absurd fits
-  agrees_sent s m sends no_start nobody no_group no_channel no_member no_subscription no_setting no_specific no_policy no_mute never no_entry (effect.Mailed user entries off) fits = absurd fits
-  agrees_sent s m sends no_start nobody no_group no_channel no_member no_subscription no_setting no_specific no_policy no_mute never no_entry (effect.Message message owed deal) fits =
+      → IsCalm s → entries_by j s.at s.event ≡ []
+      → (e : Effect) → IsMessage e (message_kept m) (map in_flight (owed_by (occurrence j s))) (deal_of (occurrence j s)) → Agrees j s e
+  agrees_sent s m sends no_start nobody no_group no_channel no_member no_subscription no_setting no_specific no_policy no_mute calm no_entry effect.Start fits = absurd fits
+  agrees_sent s m sends no_start nobody no_group no_channel no_member no_subscription no_setting no_specific no_policy no_mute calm no_entry (effect.User user bot) fits = absurd fits
+  agrees_sent s m sends no_start nobody no_group no_channel no_member no_subscription no_setting no_specific no_policy no_mute calm no_entry (effect.Group group members) fits = absurd fits
+  agrees_sent s m sends no_start nobody no_group no_channel no_member no_subscription no_setting no_specific no_policy no_mute calm no_entry (effect.Membership group user on) fits = absurd fits
+  agrees_sent s m sends no_start nobody no_group no_channel no_member no_subscription no_setting no_specific no_policy no_mute calm no_entry (effect.Channel name) fits = absurd fits
+  agrees_sent s m sends no_start nobody no_group no_channel no_member no_subscription no_setting no_specific no_policy no_mute calm no_entry (effect.Subscription ch user on) fits = absurd fits
+  agrees_sent s m sends no_start nobody no_group no_channel no_member no_subscription no_setting no_specific no_policy no_mute calm no_entry (effect.Preference user change) fits = absurd fits
+  agrees_sent s m sends no_start nobody no_group no_channel no_member no_subscription no_setting no_specific no_policy no_mute calm no_entry (effect.Dealt d idle live) fits = absurd fits
+  agrees_sent s m sends no_start nobody no_group no_channel no_member no_subscription no_setting no_specific no_policy no_mute calm no_entry (effect.Cleared u ds) fits = absurd fits
+  agrees_sent s m sends no_start nobody no_group no_channel no_member no_subscription no_setting no_specific no_policy no_mute calm no_entry (effect.Missed u ds) fits = absurd fits
+  agrees_sent s m sends no_start nobody no_group no_channel no_member no_subscription no_setting no_specific no_policy no_mute calm no_entry (effect.Mailed user entries off) fits = absurd fits
+  agrees_sent s m sends no_start nobody no_group no_channel no_member no_subscription no_setting no_specific no_policy no_mute calm no_entry (effect.Message message owed deal) fits =
       let e = effect.Message message owed deal in
       record {
         starts = starts_left j s e no_start (λ n. refl);
@@ -483,25 +521,26 @@ module _ (j : List Stamped) where
           dealt = deals-append j s ∙ (ap (λ o. deals j ++ option_to_list (option_map (λ n. deal_of (occurrence j s)) o)) sends ∙ ap (λ d. deals j ++ d ∷ []) (sym fits.2));
         };
         of_notices = record {
-          wait = ap (map notice_kept) (more_waiting j s e never) ∙ (map-append notice_kept (waiting j) (owed_by (occurrence j s)) ∙ ap (λ ws. map notice_kept (waiting j) ++ ws) (sym fits.1));
+          wait = kept-append j s ∙ (ap (λ ws. ws ++ map in_flight (owed_by (occurrence j s))) (steps_left s calm.never calm.not_ready calm.not_cleared calm.not_dealt (all_kept j)) ∙ ap (λ ws. all_kept j ++ ws) (sym fits.1));
           handed = outbox-append j s ∙ (ap (λ es. outbox j ++ es) no_entry ∙ append-nil (outbox j));
-          off = ap in_64_bits (none_off j s e never no_entry);
+          off = ap in_64_bits (none_off j s e calm.never no_entry);
+          live = ap in_64_bits (none_cleared j s e calm.not_cleared);
         };
       }
 
   agrees_send : (at : ℕ) (sender : UserId) (to : Destination) (text : List ℕ) (e : Effect) → IsSendOf j at sender to text e → Agrees j (record { at = at; event = Asked (request_to sender to text) }) e
   agrees_send at sender (destination.Channel channel topic) text e fits =
       agrees_sent (record { at = at; event = Asked (Send sender channel topic text) }) (record { past = j; sender = sender; to = destination.Channel channel topic; text = text }) refl
-      refl refl refl refl (λ g u. refl) (λ u c. refl) (λ u. refl) (λ u c. refl) (λ u c topic. refl) (λ u v. refl) (λ u. refl) refl e fits
+      refl refl refl refl (λ g u. refl) (λ u c. refl) (λ u. refl) (λ u c. refl) (λ u c topic. refl) (λ u v. refl) (calm_asked at (Send sender channel topic text)) refl e fits
   agrees_send at sender (destination.Direct to) text e fits =
       agrees_sent (record { at = at; event = Asked (Direct sender to text) }) (record { past = j; sender = sender; to = destination.Direct to; text = text }) refl
-      refl refl refl refl (λ g u. refl) (λ u c. refl) (λ u. refl) (λ u c. refl) (λ u c topic. refl) (λ u v. refl) (λ u. refl) refl e fits
+      refl refl refl refl (λ g u. refl) (λ u c. refl) (λ u. refl) (λ u c. refl) (λ u c topic. refl) (λ u v. refl) (calm_asked at (Direct sender to text)) refl e fits
 
   -- an event by which a user sets something
   agrees_preference : (s : Stamped) (v : UserId) (change : Preference) → is_user j v ≡ true → IsPreferredAfter j s v change
       → is_restart s.event ≡ false → person_of s.event ≡ None → group_of s.event ≡ None → channel_of s.event ≡ None → ((g : GroupId) (u : UserId) → membership_change g u j s.event ≡ None) → ((u : UserId) (c : ChannelId) → subscription_change u c s.event ≡ None)
-      → ((u : UserId) → is_mail_turn_of u s.event ≡ false) → entries_by j s.at s.event ≡ [] → message_of (occurrence j s) ≡ None → owed_by (occurrence j s) ≡ [] → Agrees j s (effect.Preference v change)
-  agrees_preference s v change there after no_start nobody no_group no_channel no_member no_subscription never no_entry no_message owes_none =
+      → IsCalm s → entries_by j s.at s.event ≡ [] → message_of (occurrence j s) ≡ None → owed_by (occurrence j s) ≡ [] → Agrees j s (effect.Preference v change)
+  agrees_preference s v change there after no_start nobody no_group no_channel no_member no_subscription calm no_entry no_message owes_none =
       let e = effect.Preference v change in let user = user_within j v there in
       record {
         starts = starts_left j s e no_start (λ n. refl);
@@ -516,7 +555,7 @@ module _ (j : List Stamped) where
         of_groups = groups_left j s e no_group no_member (still_sets j s e nobody) (λ gs. refl) (λ sets. refl);
         of_channels = channels_left j s e no_channel no_subscription (still_sets j s e nobody) (λ cs. refl) (λ sets. refl);
         of_messages = messages_left j s e no_message (λ ms. refl) (λ ds. refl);
-        of_notices = notices_left j s e never owes_none no_entry (λ ws. refl) (λ es. refl) (λ n. refl);
+        of_notices = notices_left j s e calm owes_none no_entry (λ ws. refl) (λ es. refl) (λ n. refl) (λ ws n. refl);
       }
 
   -- a mail turn switches all of a user's batch rows off, or none
@@ -524,11 +563,11 @@ module _ (j : List Stamped) where
   more_off at user =
       let s : Stamped = record { at = at; event = MailTurn user } in
       let rows = length (batch_rows j user) in
-      let made = length (map (mail_entry j at) (by_message (batch_rows j user))) in
-      let turned = length (filter (is_turn s) (waiting j)) in
-      let all_turned : turned ≡ rows = ap length (sym (batch_rows-waiting j user ∙ filter_same (is_mail_of user) (is_turn s) (λ n. turn_of_mail user n.user n.way) (waiting j))) in
-      let all_made : made ≡ rows = length-map (by_message (batch_rows j user)) (mail_entry j at) ∙ ap length (by_message-batch_rows j user ∙ sym (batch_rows-waiting j user)) in
-      elim (switch_on j user Mail) as (λ on. switched_off (j ++ s ∷ []) + length (if on then map (mail_entry j at) (by_message (batch_rows j user)) else []) ≡ switched_off j + turned → switched_off (j ++ s ∷ []) ≡ switched_off j + (if on then 0 else rows)) [
+      let made = length (map (mail_entry j at) (by_message (mailed j user))) in
+      let turned = length (filter (is_turned j s) (waiting j)) in
+      let all_turned : turned ≡ rows = ap length (sym (batch_rows-waiting j user ∙ filter_same (is_ready_mail_of j user) (is_turned j s) (λ n. and-swap (is_mail_of user n) (is_ready j n) ∙ ap (λ b. is_ready j n && b) (turn_of_mail user n.user n.way)) (waiting j))) in
+      let all_made : made ≡ rows = length-map (by_message (mailed j user)) (mail_entry j at) ∙ ap length (by_message-mailed j user ∙ sym (batch_rows-waiting j user)) in
+      elim (switch_on j user Mail) as (λ on. switched_off (j ++ s ∷ []) + length (if on then map (mail_entry j at) (by_message (mailed j user)) else []) ≡ switched_off j + turned → switched_off (j ++ s ∷ []) ≡ switched_off j + (if on then 0 else rows)) [
         | true ↦ λ h. all_on (switched_off (j ++ s ∷ [])) (switched_off j) made rows turned all_made all_turned h
         | false ↦ λ h. all_off (switched_off (j ++ s ∷ [])) (switched_off j) rows turned all_turned h
       ] (switched_off-append j s)
@@ -548,6 +587,9 @@ module _ (j : List Stamped) where
   agrees_mails at user (effect.Subscription ch u on) fits = absurd fits
   agrees_mails at user (effect.Preference u change) fits = absurd fits
   agrees_mails at user (effect.Message message owed deal) fits = absurd fits
+  agrees_mails at user (effect.Missed v ds) fits = absurd fits
+  agrees_mails at user (effect.Cleared v ds) fits = absurd fits
+  agrees_mails at user (effect.Dealt d idle live) fits = absurd fits
   agrees_mails at user (effect.Mailed mailed entries off) fits =
       let s : Stamped = record { at = at; event = MailTurn user } in let e = effect.Mailed mailed entries off in
       record {
@@ -557,12 +599,62 @@ module _ (j : List Stamped) where
         of_channels = channels_left j s e refl (λ u c. refl) (still_sets j s e refl) (λ cs. refl) (λ sets. refl);
         of_messages = messages_left j s e refl (λ ms. refl) (λ ds. refl);
         of_notices = record {
-          wait = ap (map notice_kept) (waiting-append j s ∙ (append-nil (filter (λ n. not (is_turn s n)) (waiting j)) ∙ filter_same (λ n. not (is_turn s n)) (λ n. not (is_mail_of user n)) (λ n. ap not (sym (turn_of_mail user n.user n.way))) (waiting j)))
-              ∙ (sym (filter-map (λ w. not (is_mail_to user w)) notice_kept (waiting j)) ∙ ap (λ (u : UserId). filter (λ w. not (is_mail_to u w)) (map notice_kept (waiting j))) (sym fits.0));
+          wait = all_moved j s e refl ∙ (steps_mails at user (all_kept j) ∙ ap (λ (u : UserId). filter (λ w. not (is_ready_mail_to u w)) (all_kept j)) (sym fits.0));
           handed = outbox-append j s ∙ ap (λ es. outbox j ++ es) (sym fits.1);
           off = ap in_64_bits (more_off at user) ∙ (sym (added (switched_off j) (switched_at j user)) ∙ ap (λ n. min (in_64_bits (switched_off j) + n) (2 ^ 64 - 1)) (sym fits.2));
+          live = ap in_64_bits (none_cleared j s e (λ u k. refl));
         };
       }
+
+  -- an absorbed outcome, with what it makes of the notices
+  agrees_absorbed : (at : ℕ) (o : Outcome) (e : Effect) → ((n : ℕ) → starts_after e n ≡ n) → ((ns : List UserName) → names_after e ns ≡ ns) → ((bs : List Bool) → bots_after e bs ≡ bs) → ((ps : List Preferred) → preferences_after e ps ≡ ps)
+      → ((gs : List GroupName) → groups_after e gs ≡ gs) → ((sets : List (List UserId)) → members_after e sets ≡ sets) → ((cs : List (List ℕ)) → channels_after e cs ≡ cs) → ((sets : List (List UserId)) → subscribers_after e sets ≡ sets)
+      → ((ms : List Message) → messages_after e ms ≡ ms) → ((ds : List Deal) → deals_after e ds ≡ ds) → NoticesAgree j (record { at = at; event = Absorbed o }) e → Agrees j (record { at = at; event = Absorbed o }) e
+  agrees_absorbed at o e starts names bots preferences group_list members channel_list subscribers ms ds notices =
+      let s : Stamped = record { at = at; event = Absorbed o } in
+      record {
+        starts = starts_left j s e refl starts;
+        of_users = users_left j s e refl (λ u. refl) (λ u c. refl) (λ u c topic. refl) (λ u v. refl) names bots preferences;
+        of_groups = groups_left j s e refl (λ g u. refl) (still_sets j s e refl) group_list members;
+        of_channels = channels_left j s e refl (λ u c. refl) (still_sets j s e refl) channel_list subscribers;
+        of_messages = messages_left j s e refl ms ds;
+        of_notices = notices;
+      }
+
+  agrees_dealt : (at : ℕ) (k : DealNo) (verdicts : List UserVerdict) (e : Effect) → IsDealt e k verdicts → Agrees j (record { at = at; event = Absorbed (Dealt k verdicts) }) e
+  agrees_dealt at k verdicts effect.Start fits = absurd fits
+  agrees_dealt at k verdicts (effect.User u bot) fits = absurd fits
+  agrees_dealt at k verdicts (effect.Group group members) fits = absurd fits
+  agrees_dealt at k verdicts (effect.Membership group u on) fits = absurd fits
+  agrees_dealt at k verdicts (effect.Channel name) fits = absurd fits
+  agrees_dealt at k verdicts (effect.Subscription ch u on) fits = absurd fits
+  agrees_dealt at k verdicts (effect.Preference u change) fits = absurd fits
+  agrees_dealt at k verdicts (effect.Message message owed deal) fits = absurd fits
+  agrees_dealt at k verdicts (effect.Cleared u ds) fits = absurd fits
+  agrees_dealt at k verdicts (effect.Missed u ds) fits = absurd fits
+  agrees_dealt at k verdicts (effect.Mailed u entries off) fits = absurd fits
+  agrees_dealt at k verdicts (effect.Dealt d idle live) fits =
+      let s : Stamped = record { at = at; event = Absorbed (Dealt k verdicts) } in let e = effect.Dealt d idle live in
+      agrees_absorbed at (Dealt k verdicts) e (λ n. refl) (λ ns. refl) (λ bs. refl) (λ ps. refl) (λ gs. refl) (λ sets. refl) (λ cs. refl) (λ sets. refl) (λ ms. refl) (λ ds. refl)
+      (notices_moved j s e (λ u. refl) (λ u k. refl) refl refl
+      (λ ws. ap (λ (q : DealNo). map (λ w. if of_deal q w then dealt_to at (users_in idle) (users_in live) w else w) ws) fits.0 ∙ sym (steps_dealt at k verdicts (users_in idle) (users_in live) fits.1 fits.2 ws))
+      (λ es. refl) (λ n. refl) (λ ws n. refl))
+
+  agrees_missed : (at : ℕ) (u : UserId) (deals : List DealNo) → Agrees j (record { at = at; event = Absorbed (Missed u deals) }) (effect.Missed u deals)
+  agrees_missed at u deals =
+      let s : Stamped = record { at = at; event = Absorbed (Missed u deals) } in let e = effect.Missed u deals in
+      agrees_absorbed at (Missed u deals) e (λ n. refl) (λ ns. refl) (λ bs. refl) (λ ps. refl) (λ gs. refl) (λ sets. refl) (λ cs. refl) (λ sets. refl) (λ ms. refl) (λ ds. refl)
+      (notices_moved j s e (λ u. refl) (λ u k. refl) refl refl (λ ws. sym (steps_missed at u deals ws)) (λ es. refl) (λ n. refl) (λ ws n. refl))
+
+  agrees_cleared : (at : ℕ) (u : UserId) (deals : List DealNo) (q : QueueId) → Agrees j (record { at = at; event = Absorbed (Cleared u deals q) }) (effect.Cleared u deals)
+  agrees_cleared at u deals q =
+      let s : Stamped = record { at = at; event = Absorbed (Cleared u deals q) } in let e = effect.Cleared u deals in
+      agrees_absorbed at (Cleared u deals q) e (λ n. refl) (λ ns. refl) (λ bs. refl) (λ ps. refl) (λ gs. refl) (λ sets. refl) (λ cs. refl) (λ sets. refl) (λ ms. refl) (λ ds. refl) (record {
+        wait = all_moved j s e refl ∙ steps_cleared at u deals q (all_kept j);
+        handed = outbox-append j s ∙ append-nil (outbox j);
+        off = ap in_64_bits (none_off j s e (λ v. refl) refl);
+        live = ap in_64_bits (cleared_live-append j s ∙ ap (λ n. cleared_live j + n) (cleared_so j at u deals q)) ∙ sym (added (cleared_live j) (length (filter (is_cleared u deals) (all_kept j))));
+      })
 
   -- what a request that may stand tells
 
@@ -603,26 +695,29 @@ module _ (j : List Stamped) where
   agrees at (Asked (Set user change)) e may fits =
       let s : Stamped = record { at = at; event = Asked (Set user change) } in
       subst (Agrees j s) (sym fits) (agrees_preference s user (preference.Setting change) (first_kept (is_user j user) NoUser [] (asked_not_refused at (Set user change) may)).0 (after-setting j at user change)
-      refl refl refl refl (λ g u. refl) (λ u c. refl) (λ u. refl) refl refl refl)
+      refl refl refl refl (λ g u. refl) (λ u c. refl) (calm_asked at (Set user change)) refl refl refl)
   agrees at (Asked (SetChannel user channel change)) e may fits =
       let s : Stamped = record { at = at; event = Asked (SetChannel user channel change) } in
       subst (Agrees j s) (sym fits) (agrees_preference s user (preference.Specific channel change) (first_kept (is_user j user) NoUser (rule (not (is_channel j channel)) NoChannel ∷ []) (asked_not_refused at (SetChannel user channel change) may)).0 (after-specific j at user channel change)
-      refl refl refl refl (λ g u. refl) (λ u c. refl) (λ u. refl) refl refl refl)
+      refl refl refl refl (λ g u. refl) (λ u c. refl) (calm_asked at (SetChannel user channel change)) refl refl refl)
   agrees at (Asked (SetPolicy user channel topic policy)) e may fits =
       let s : Stamped = record { at = at; event = Asked (SetPolicy user channel topic policy) } in
       subst (Agrees j s) (sym fits) (agrees_preference s user (preference.Policy channel topic policy) (first_kept (is_user j user) NoUser (rule (not (is_channel j channel)) NoChannel ∷ rule (is_longer_than longest_topic topic) TopicTooLong ∷ []) (asked_not_refused at (SetPolicy user channel topic policy) may)).0 (after-policy j at user channel topic policy)
-      refl refl refl refl (λ g u. refl) (λ u c. refl) (λ u. refl) refl refl refl)
+      refl refl refl refl (λ g u. refl) (λ u c. refl) (calm_asked at (SetPolicy user channel topic policy)) refl refl refl)
   agrees at (Asked (Mute user other on)) e may fits =
       let s : Stamped = record { at = at; event = Asked (Mute user other on) } in
       let both = first_kept (is_user j user && is_user j other) NoUser [] (asked_not_refused at (Mute user other on) may) in
       subst (Agrees j s) (sym fits) (agrees_preference s user (preference.Mute other on) (and_parts (is_user j user) (is_user j other) both.0).0 (after-mute j at user other on)
-      refl refl refl refl (λ g u. refl) (λ u c. refl) (λ u. refl) refl refl refl)
+      refl refl refl refl (λ g u. refl) (λ u c. refl) (calm_asked at (Mute user other on)) refl refl refl)
   agrees at (Asked (Send sender channel topic text)) e may fits = agrees_send at sender (destination.Channel channel topic) text e fits
   agrees at (Asked (Direct sender to text)) e may fits = agrees_send at sender (destination.Direct to) text e fits
+  agrees at (Absorbed (Dealt k verdicts)) e may fits = agrees_dealt at k verdicts e fits
+  agrees at (Absorbed (Cleared user deals queue)) e may fits = subst (Agrees j (record { at = at; event = Absorbed (Cleared user deals queue) })) (sym fits) (agrees_cleared at user deals queue)
+  agrees at (Absorbed (Missed user deals)) e may fits = subst (Agrees j (record { at = at; event = Absorbed (Missed user deals) })) (sym fits) (agrees_missed at user deals)
   agrees at (MailTurn user) e may fits = agrees_mails at user e fits
 
 -- the tables hold what the events leave with a lawful one
-pub holds_after : (old new : Tables) (past : List Stamped) → Holds old past → (s : Stamped) → is_lawful_after past s ≡ true → (e : Effect) → IsEffectOf past s.at s.event e → IsApplied old new e → new.last ≡ s.at → Holds new (past ++ s ∷ [])
+pub holds_after : (old new : Tables) (past : List Stamped) → Holds old past → (s : Stamped) → is_lawful_after past s ≡ true → (e : Effect) → IsEffectOf past s.at s.event e → IsApplied old new s.at e → new.last ≡ s.at → Holds new (past ++ s ∷ [])
 holds_after old new past holds s next e fits applied last = agreed old new past holds s e (agrees past s.at s.event e (second (nat_le (last_stamp past) s.at) (may_stand past s.at s.event) next) fits) applied last
   where
     second : (a b : Bool) → (a && b) ≡ true → b ≡ true
@@ -630,7 +725,7 @@ holds_after old new past holds s next e fits applied last = agreed old new past 
     second false b h = absurd (cc)
 
 -- the last stamp is no part of an effect
-pub applied_at : (old new : Tables) (at : ℕ) (e : Effect) → IsApplied old new e → IsApplied old (record new { last = at }) e
+pub applied_at : (old new : Tables) (at : ℕ) (e : Effect) → IsApplied old new at e → IsApplied old (record new { last = at }) at e
 applied_at old new at e applied = record {
   starts = applied.starts;
   names = applied.names;
@@ -645,18 +740,23 @@ applied_at old new at e applied = record {
   deals = applied.deals;
   outbox = applied.outbox;
   off = applied.off;
+  live = applied.live;
 }
 
 nothing_off : 0 ≡ in_64_bits (switched_off [])
 unfolding owed_with
 nothing_off = ap (λ ns. in_64_bits (count_by (λ n. same_account (account_of [] n) (Cancelled SwitchedOff)) ns)) (sym notices-nil)
 
+nothing_cleared : 0 ≡ in_64_bits (cleared_live [])
+unfolding owed_with
+nothing_cleared = ap (λ ns. in_64_bits (count_by (λ n. same_account (account_of [] n) LiveQueue) ns)) (sym notices-nil)
+
 no_start : 0 ≡ in_64_bits (start_count [])
 no_start = ap in_64_bits (sym start_count-nil)
 
 -- the tables of the empty journal
-pub empty_stands : (t : Tables) → t.last ≡ 0 → t.starts ≡ 0 → t.names.items ≡ [] → t.bots.items ≡ [] → t.groups.items ≡ [] → t.members.items ≡ [] → t.channels.items ≡ [] → t.subscribers.items ≡ [] → t.messages.items ≡ [] → t.waiting.items ≡ [] → t.deals.items ≡ [] → t.outbox.items ≡ [] → t.preferences.items ≡ [] → t.off ≡ 0 → Holds t []
-empty_stands t last starts names bots group_list members channel_list subscribers ms ws ds es ps off = record {
+pub empty_stands : (t : Tables) → t.last ≡ 0 → t.starts ≡ 0 → t.names.items ≡ [] → t.bots.items ≡ [] → t.groups.items ≡ [] → t.members.items ≡ [] → t.channels.items ≡ [] → t.subscribers.items ≡ [] → t.messages.items ≡ [] → t.waiting.items ≡ [] → t.deals.items ≡ [] → t.outbox.items ≡ [] → t.preferences.items ≡ [] → t.off ≡ 0 → t.live ≡ 0 → Holds t []
+empty_stands t last starts names bots group_list members channel_list subscribers ms ws ds es ps off live = record {
   last = last;
   starts = starts ∙ no_start;
   names = names ∙ ap (named_from 1) (sym people-nil);
@@ -670,10 +770,11 @@ empty_stands t last starts names bots group_list members channel_list subscriber
   subscriber_sets = are_user_sets (length (channels [])) (length (people [])) t.subscribers.items [] (ap (map users_in) subscribers) (ap length (sym channels-nil)) tt;
   channels = channel_list ∙ sym channels-nil;
   messages = ms ∙ ap (map message_kept) (sym messages-nil);
-  waiting = ws ∙ ap (map notice_kept) (sym waiting-nil);
+  waiting = ws ∙ ap (map (notice_kept [])) (sym waiting-nil);
   deals = ds ∙ sym deals-nil;
   outbox = es ∙ sym outbox-nil;
   off = off ∙ nothing_off;
+  live = live ∙ nothing_cleared;
 }
   where
     nothing_set : (n : ℕ) → preferred_in [] n ≡ default_preferred

@@ -1,21 +1,18 @@
 -- What a message owes and what a turn makes, of tables that hold what the events before leave.
-use Rattle.std.proofs.Common.{◌≡◌, ℕ, ◌+◌, Bool, true, false, ◌&&◌, ◌||◌, ◌==◌, eqb, cond, not, List, [], ◌∷◌, ◌++◌, length, map, refl, sym, ap, ◌∙◌, arith, length-append}
+use Rattle.std.proofs.Common.{◌≡◌, ℕ, ◌+◌, Bool, true, false, ◌&&◌, ◌||◌, cond, not, List, [], ◌∷◌, ◌++◌, length, map, refl, sym, ap, ◌∙◌, subst, arith, length-append}
 use Rattle.std.specs.Prelude.{Option, Some, None, option_map, option_to_list, filter, if◌then◌else◌}
 use Rattle.std.specs.Option.{option_map_or}
 use Rattle.std.specs.List.{filter_map, flat_map, cons_option}
 use Rattle.std.proofs.lemmas.List.{length-map, map-append, append-nil, append_assoc}
-use Rattle.std.proofs.Math.Bool.{and-true, and-false}
-use Rattle.std.proofs.lemmas.Bool.Decides.{nat_tests}
 use Rattle.chat_model.specs.declared.event.Stamped.{Stamped}
-use Rattle.chat_model.specs.declared.event.Event.{Event}
-use Rattle.chat_model.specs.declared.event.Event.TheVariants.{Restart, Asked, MailTurn}
+use Rattle.chat_model.specs.declared.event.Event.TheVariants.{Restart, Asked, Absorbed, MailTurn}
 use Rattle.chat_model.specs.declared.request.Request.TheVariants.{AddUser, AddGroup, Member, AddChannel, Subscribe, Set, SetChannel, SetPolicy, Mute, Send, Direct}
 use Rattle.chat_model.specs.declared.ids.UserId.{UserId}
 use Rattle.chat_model.specs.declared.ids.ChannelId.{ChannelId}
 use Rattle.chat_model.specs.declared.ids.GroupId.{GroupId}
 use Rattle.chat_model.specs.declared.entry.Entry.{Entry}
 use Rattle.chat_model.specs.declared.row.Row.TheVariants as row
-use Rattle.chat_model.specs.declared.row.RowChange.TheVariants.{Put, Remove}
+use Rattle.chat_model.specs.declared.row.RowChange.TheVariants.{Put}
 use Rattle.chat_model.specs.declared.trigger.Trigger.{Trigger}
 use Rattle.chat_model.specs.declared.facts.Facts.{Facts}
 use Rattle.chat_model.specs.declared.policy.Policy.{Policy}
@@ -28,38 +25,46 @@ use Rattle.chat_model.specs.Settings.{default_settings, changed_settings}
 use Rattle.notice_ledger.specs.declared.destination.Destination.{Destination}
 use Rattle.notice_ledger.specs.declared.destination.Destination.TheVariants as destination
 use Rattle.notice_ledger.specs.Past.Journal.{occurrence}
-use Rattle.notice_ledger.specs.Past.Values.{numbered, Person, person, people, settings, users, message_of, sent_by, messages, deal_count}
+use Rattle.notice_ledger.specs.Past.Values.{numbered, Person, person, people, settings, is_one_of, users, SentMessage, message_of, sent_by, messages, deal_count}
 use Rattle.notice_ledger.specs.Past.Triggers.{is_recipient, is_direct, is_participant_of, mentions_of, came_by, facts_of, trigger}
-use Rattle.notice_ledger.specs.Past.Owed.{Notice, same_way, waiting, notice_of, owed_of, owed_by, is_turn_of, is_mail_turn_of, switch_on}
+use Rattle.notice_ledger.specs.Past.Owed.{Notice, same_way, waiting, notice_of, owed_of, owed_by, switch_on}
 use Rattle.notice_ledger.specs.Past.Due.{batch_rows}
-use Rattle.notice_ledger.specs.Past.Outbox.{outbox, mail_entry, mail_entries, by_message}
-use Rattle.notice_ledger.specs.Past.Rows.{outbox_rows_from}
-use Rattle.notice_ledger.proofs.Lists.{filter_none}
+use Rattle.notice_ledger.specs.Past.Outbox.{outbox, mailed, mail_entry, mail_entries, by_message}
+use Rattle.notice_ledger.specs.Past.Rows.{outbox_rows_from, rows}
 use Rattle.notice_ledger.proofs.Appended.{outbox-append}
-use Rattle.notice_ledger.proofs.Batches.{is_mail_of, filter_same, by_message-batch_rows, batch_rows-waiting}
+use Rattle.notice_ledger.proofs.Batches.{is_ready_mail_of, by_message-mailed, batch_rows-waiting}
 use Rattle.notice_ledger.proofs.Sent.{IsOfMessage}
 use Rattle.book_tables.specs.declared.tables.Message.{Message}
 use Rattle.book_tables.specs.declared.tables.Waiting.{Waiting}
 use Rattle.book_tables.specs.declared.tables.Tables.{Tables}
-use Rattle.book_tables.specs.Changes.{notice_key, is_turn, waiting_row, changes}
-use Rattle.book_tables.specs.Tables.{Holds, message_kept, notice_kept, is_mail_to, request_to, send_of, sent_after, owed_user, switched_at}
+use Rattle.book_tables.specs.declared.tables.Standing.TheVariants.{Flight}
+use Rattle.book_tables.specs.Notices.{is_undecided, is_undecided_of, is_ready_mail_to, named_by, readied, dealt_to}
+use Rattle.book_tables.proofs.NewRows.{changes_with}
+use Rattle.book_tables.proofs.RowsAfter.{all_kept, MakesPending, rows-append}
+use Rattle.book_tables.proofs.RowSteps.{makes_left, makes_start, makes_mails, makes_dealt, makes_cleared, makes_missed}
+use Rattle.chat_model.specs.declared.deal.Outcome.TheVariants.{Dealt, Cleared, Missed}
+use Rattle.chat_model.specs.declared.deal.QueueId.{QueueId}
+use Rattle.chat_model.specs.declared.deal.UserVerdict.{UserVerdict}
+use Rattle.chat_model.specs.declared.ids.DealNo.{DealNo}
+use Rattle.chat_model.specs.declared.request.Request.{Request}
+use Rattle.chat_model.specs.declared.row.RowChange.{RowChange}
+use Rattle.chat_model.specs.Outcomes.{gives_idle, gives_live}
+use Rattle.chat_model.specs.Rows.{changed_all}
+use Rattle.book_tables.specs.Tables.{Holds, message_kept, in_flight, request_to, send_of, sent_after, owed_user, switched_at}
 use Rattle.book_tables.specs.Preferences.{Preferred, preferred, default_preferred, preferred_in}
 use Rattle.book_tables.proofs.PreferenceLemmas.{past_end}
 use Rattle.book_tables.specs.declared.prepared.Effect.{Effect}
-use Rattle.book_tables.specs.Prepared.{notice_row, key_of_notice, IsSendOf, IsEffectOf}
+use Rattle.book_tables.specs.Prepared.{notice_row, puts_where, removes_where, IsSendOf, IsEffectOf}
 use Rattle.book_tables.proofs.Numbered.{numbered-map}
 use Rattle.book_tables.proofs.Steps.{filter-push, map-flat_map}
-use Rattle.book_tables.proofs.Standing.{filter-map, names_long, messages_long, messages_dealt}
-
-eqb-swap : (a b : ℕ) → eqb a b ≡ eqb b a
-eqb-swap a b = grind (arith, nat_tests)
-
--- a mail notice of a user has its turn at the user's mail turn
-pub turn_of_mail : (u v : UserId) (w : Way) → (v.0 == u.0 && same_way w Mail) ≡ is_turn_of v w (MailTurn u)
-turn_of_mail u v Mail = and-true (v.0 == u.0) ∙ eqb-swap v.0 u.0
-turn_of_mail u v Push = and-false (v.0 == u.0)
+use Rattle.book_tables.proofs.Standing.{names_long, messages_long, messages_dealt}
 
 -- ---- whom a message notifies
+
+-- the settings among what is so of a user
+pub facts_settings : (past : List Stamped) (m : SentMessage) (text : List ℕ) (u : UserId) → (facts_of past m text u).settings ≡ settings past u
+unfolding facts_of
+facts_settings past m text u = refl
 
 -- who takes part in the topic counts only where the text has a wildcard for it
 pub trigger-participant : (f : Facts) (p : Bool) (w : Way) → f.topic_wildcard ≡ false → trigger_of (record f { participant = p }) w ≡ trigger_of f w
@@ -86,23 +91,9 @@ not_recipient f w apart = ap (λ b. if b then None else first_that_holds (trigge
 
 -- ---- what a message owes
 
--- the notice of a trigger, if there is one
-abbrev noticed : List Stamped → ℕ → Message → UserId → Way → Option Trigger → Option Notice
-noticed past at k u w o =
-    option_map (λ (tr : Trigger). let n : Notice = record {
-      user = u;
-      number = record { 0 = length (messages past) + 1 };
-      way = w;
-      message = sent_after past k;
-      trigger = tr;
-      via = came_by past k.text u tr;
-      deal = record { 0 = deal_count past };
-      owing = occurrence past (send_of at k);
-    } in n) o
-
 -- what it owes by a way
 abbrev pub owed_way : List Stamped → ℕ → Message → UserId → Way → Option Waiting
-owed_way past at k u w = option_map notice_kept (notice_of (occurrence past (send_of at k)) (sent_after past k) u w)
+owed_way past at k u w = option_map in_flight (notice_of (occurrence past (send_of at k)) (sent_after past k) u w)
 
 -- two that are added one after another
 pub both_added : (past : List Stamped) (at : ℕ) (k : Message) (u : UserId) (owed : List Waiting) (a b : Option Waiting) → a ≡ owed_way past at k u Mail → b ≡ owed_way past at k u Push → (owed ++ option_to_list a) ++ option_to_list b ≡ owed ++ owed_user past at k u
@@ -110,7 +101,7 @@ both_added past at k u owed a b e f =
     append_assoc owed (option_to_list a) (option_to_list b)
     ∙ ap (λ ws. owed ++ ws) (ap (λ o. option_to_list o ++ option_to_list b) e ∙ (ap (λ o. option_to_list (owed_way past at k u Mail) ++ option_to_list o) f ∙ by (notice_of (occurrence past (send_of at k)) (sent_after past k) u Mail) (notice_of (occurrence past (send_of at k)) (sent_after past k) u Push)))
   where
-    by : (x y : Option Notice) → option_to_list (option_map notice_kept x) ++ option_to_list (option_map notice_kept y) ≡ map notice_kept (cons_option x (cons_option y []))
+    by : (x y : Option Notice) → option_to_list (option_map in_flight x) ++ option_to_list (option_map in_flight y) ≡ map in_flight (cons_option x (cons_option y []))
     by None None = refl
     by None (Some y) = refl
     by (Some x) None = refl
@@ -121,8 +112,20 @@ pub owed-none : (past : List Stamped) (at : ℕ) (k : Message) (u : UserId) → 
 unfolding trigger facts_of
 owed-none past at k u apart =
     let none : (w : Way) → trigger past (sent_after past k) k.text u w ≡ None = λ w. not_recipient (facts_of past (sent_after past k) k.text u) w apart in
-    ap (λ o. map notice_kept (cons_option (noticed past at k u Mail o) (cons_option (noticed past at k u Push (trigger past (sent_after past k) k.text u Push)) []))) (none Mail)
-    ∙ ap (λ o. map notice_kept (cons_option (noticed past at k u Push o) [])) (none Push)
+    ap (λ o. map in_flight (cons_option (noticed Mail o) (cons_option (noticed Push (trigger past (sent_after past k) k.text u Push)) []))) (none Mail)
+    ∙ ap (λ o. map in_flight (cons_option (noticed Push o) [])) (none Push)
+  where
+    noticed : Way → Option Trigger → Option Notice
+    noticed w o = option_map (λ (tr : Trigger). let n : Notice = record {
+      user = u;
+      number = record { 0 = length (messages past) + 1 };
+      way = w;
+      message = sent_after past k;
+      trigger = tr;
+      via = came_by past k.text u tr;
+      deal = record { 0 = deal_count past };
+      owing = occurrence past (send_of at k);
+    } in n) o
 
 -- the message that the send of a message sends
 pub message-sent : (past : List Stamped) (at : ℕ) (k : Message) → message_of (occurrence past (send_of at k)) ≡ Some (sent_after past k)
@@ -141,23 +144,36 @@ module _ (t : Tables) (past : List Stamped) (holds : Holds t past) where
 
   -- the notice of a trigger
   pub notice-kept : (at : ℕ) (k : Message) (u : UserId) (w : Way) (found : Option Trigger) (made : Trigger → Waiting) → found ≡ trigger past (sent_after past k) k.text u w
-      → ((tr : Trigger) → made tr ≡ record { user = u; message = record { 0 = length t.messages.items + 1 }; way = w; trigger = tr; via = came_by past k.text u tr; deal = record { 0 = length t.messages.items }; ready = at })
+      → ((tr : Trigger) → made tr ≡ record { user = u; message = record { 0 = length t.messages.items + 1 }; way = w; trigger = tr; via = came_by past k.text u tr; deal = record { 0 = length t.messages.items }; online = same_way w Push && (settings past u).push_online; standing = Flight })
       → option_map made found ≡ owed_way past at k u w
-  notice-kept at k u w found made same is = by found ∙ ap (λ o. option_map notice_kept (noticed past at k u w o)) same
+  notice-kept at k u w found made same is = by found ∙ ap (λ o. option_map in_flight (noticed o)) same
     where
-      numbered_so : ℕ → ℕ → Trigger → Waiting
-      numbered_so number deal tr = record { user = u; message = record { 0 = number + 1 }; way = w; trigger = tr; via = came_by past k.text u tr; deal = record { 0 = deal }; ready = at }
+      noticed : Option Trigger → Option Notice
+      noticed o = option_map (λ (tr : Trigger). let n : Notice = record {
+        user = u;
+        number = record { 0 = length (messages past) + 1 };
+        way = w;
+        message = sent_after past k;
+        trigger = tr;
+        via = came_by past k.text u tr;
+        deal = record { 0 = deal_count past };
+        owing = occurrence past (send_of at k);
+      } in n) o
 
-      by : (o : Option Trigger) → option_map made o ≡ option_map notice_kept (noticed past at k u w o)
+      numbered_so : ℕ → ℕ → Trigger → Waiting
+      numbered_so number deal tr = record { user = u; message = record { 0 = number + 1 }; way = w; trigger = tr; via = came_by past k.text u tr; deal = record { 0 = deal }; online = same_way w Push && (settings past u).push_online; standing = Flight }
+
+      by : (o : Option Trigger) → option_map made o ≡ option_map in_flight (noticed o)
       by None = refl
       by (Some tr) =
           ap Some (is tr ∙ (ap (λ n. numbered_so n (length t.messages.items) tr) (sym many_messages) ∙ ap (λ n. numbered_so (length (messages past)) n tr) (sym many_deals)))
 
   -- what the message owes, user by user
-  pub owed-users : (at : ℕ) (k : Message) → flat_map (owed_user past at k) (users past) ≡ map notice_kept (owed_by (occurrence past (send_of at k)))
-  owed-users at k =
-      sym (map-flat_map notice_kept (λ u. filter_map (notice_of (occurrence past (send_of at k)) (sent_after past k) u) (Mail ∷ Push ∷ [])) (users past))
-      ∙ ap (λ o. map notice_kept (option_map_or (owed_of (occurrence past (send_of at k))) o [])) (sym (message-sent past at k))
+  pub owed-users : (at : ℕ) (k : Message) (ids : List UserId) → ids ≡ users past → flat_map (owed_user past at k) ids ≡ map in_flight (owed_by (occurrence past (send_of at k)))
+  owed-users at k ids same =
+      ap (flat_map (owed_user past at k)) same
+      ∙ (sym (map-flat_map in_flight (λ u. filter_map (notice_of (occurrence past (send_of at k)) (sent_after past k) u) (Mail ∷ Push ∷ [])) (users past))
+      ∙ ap (λ o. map in_flight (option_map_or (owed_of (occurrence past (send_of at k))) o [])) (sym (message-sent past at k)))
 
   -- ---- the entries of a turn
 
@@ -166,73 +182,82 @@ module _ (t : Tables) (past : List Stamped) (holds : Holds t past) where
   message-there n of = ap (numbered n.number.0) holds.messages ∙ (numbered-map message_kept n.number.0 (messages past) ∙ ap (option_map message_kept) of)
 
   -- one more notice, which makes an entry
-  pub entries-push : (at : ℕ) (u : UserId) (ns : List Notice) (n : Notice) (e : Entry) → is_mail_of u n ≡ true → e ≡ mail_entry past at n
-      → map (mail_entry past at) (filter (is_mail_of u) ns) ++ e ∷ [] ≡ map (mail_entry past at) (filter (is_mail_of u) (ns ++ n ∷ []))
+  pub entries-push : (at : ℕ) (u : UserId) (ns : List Notice) (n : Notice) (e : Entry) → is_ready_mail_of past u n ≡ true → e ≡ mail_entry past at n
+      → map (mail_entry past at) (filter (is_ready_mail_of past u) ns) ++ e ∷ [] ≡ map (mail_entry past at) (filter (is_ready_mail_of past u) (ns ++ n ∷ []))
   entries-push at u ns n e mail is =
-      ap (λ x. map (mail_entry past at) (filter (is_mail_of u) ns) ++ x ∷ []) is
-      ∙ (sym (map-append (mail_entry past at) (filter (is_mail_of u) ns) (n ∷ []))
-      ∙ ap (map (mail_entry past at)) (ap (λ b. filter (is_mail_of u) ns ++ cond b (n ∷ []) []) (sym mail) ∙ sym (filter-push (is_mail_of u) ns n)))
+      ap (λ x. map (mail_entry past at) (filter (is_ready_mail_of past u) ns) ++ x ∷ []) is
+      ∙ (sym (map-append (mail_entry past at) (filter (is_ready_mail_of past u) ns) (n ∷ []))
+      ∙ ap (map (mail_entry past at)) (ap (λ b. filter (is_ready_mail_of past u) ns ++ cond b (n ∷ []) []) (sym mail) ∙ sym (filter-push (is_ready_mail_of past u) ns n)))
 
   -- one more notice, which makes none
-  pub entries-left : (at : ℕ) (u : UserId) (ns : List Notice) (n : Notice) → is_mail_of u n ≡ false → map (mail_entry past at) (filter (is_mail_of u) ns) ≡ map (mail_entry past at) (filter (is_mail_of u) (ns ++ n ∷ []))
+  pub entries-left : (at : ℕ) (u : UserId) (ns : List Notice) (n : Notice) → is_ready_mail_of past u n ≡ false → map (mail_entry past at) (filter (is_ready_mail_of past u) ns) ≡ map (mail_entry past at) (filter (is_ready_mail_of past u) (ns ++ n ∷ []))
   entries-left at u ns n other =
-      ap (map (mail_entry past at)) (sym (filter-push (is_mail_of u) ns n ∙ (ap (λ b. filter (is_mail_of u) ns ++ cond b (n ∷ []) []) other ∙ append-nil (filter (is_mail_of u) ns))))
+      ap (map (mail_entry past at)) (sym (filter-push (is_ready_mail_of past u) ns n ∙ (ap (λ b. filter (is_ready_mail_of past u) ns ++ cond b (n ∷ []) []) other ∙ append-nil (filter (is_ready_mail_of past u) ns))))
 
-  -- the entries are those of the batch rows
-  pub entries-turn : (at : ℕ) (u : UserId) → map (mail_entry past at) (filter (is_mail_of u) (waiting past)) ≡ map (mail_entry past at) (by_message (batch_rows past u))
-  entries-turn at u = ap (map (mail_entry past at)) (sym (by_message-batch_rows past u))
+  -- the entries are those of the notices that the turn hands over
+  pub entries-turn : (at : ℕ) (u : UserId) → map (mail_entry past at) (filter (is_ready_mail_of past u) (waiting past)) ≡ map (mail_entry past at) (by_message (mailed past u))
+  entries-turn at u = ap (map (mail_entry past at)) (sym (by_message-mailed past u))
 
   -- ---- the changes of the rows
 
-  no_turns : (e : Event) → ((u : UserId) → is_mail_turn_of u e ≡ false) → filter (is_turn e) (waiting past) ≡ []
-  no_turns e never = filter_none (is_turn e) (λ n. never_turn n.user n.way) (waiting past)
-    where
-      never_turn : (u : UserId) (w : Way) → is_turn_of u w e ≡ false
-      never_turn u Mail = never u
-      never_turn u Push = refl
+  -- where changes are those of the event's own rows, with changes of pending rows, they make the rows with the event
+  made : (s : Stamped) (pending : List RowChange) → MakesPending past s pending → (cs : List RowChange) → cs ≡ changes_with past s pending → changed_all cs (rows past) ≡ rows (past ++ s ∷ [])
+  made s pending makes cs are = ap (λ xs. changed_all xs (rows past)) are ∙ rows-append past s pending makes
 
-  rows_of_notices : (ns : List Notice) → map (λ w. Put (notice_row w)) (map notice_kept ns) ≡ map (λ n. Put (waiting_row n)) ns
-  rows_of_notices [] = refl
-  rows_of_notices (n ∷ ns) = ap (λ cs. Put (waiting_row n) ∷ cs) (rows_of_notices ns)
+  -- a request that sends nothing changes no pending row
+  nothing_pending : (at : ℕ) (r : Request) → owed_by (occurrence past (record { at = at; event = Asked r })) ≡ [] → MakesPending past (record { at = at; event = Asked r }) []
+  nothing_pending at r none =
+      let s : Stamped = record { at = at; event = Asked r } in
+      subst (λ (ns : List Notice). MakesPending past s (map (λ w. Put (notice_row w)) (map in_flight ns))) none (makes_left past s (λ u. refl) (λ u k online. refl) (λ u k. refl) (λ k. refl))
 
-  keys_of_notices : (ns : List Notice) → map (λ w. Remove (key_of_notice w)) (map notice_kept ns) ≡ map (λ n. Remove (notice_key n)) ns
-  keys_of_notices [] = refl
-  keys_of_notices (n ∷ ns) = ap (λ cs. Remove (notice_key n) ∷ cs) (keys_of_notices ns)
+  pub no-changes_group : (at : ℕ) (name : List ℕ) (members : List UserId) → changed_all [] (rows past) ≡ rows (past ++ record { at = at; event = Asked (AddGroup name members) } ∷ [])
+  no-changes_group at name members = made (record { at = at; event = Asked (AddGroup name members) }) [] (nothing_pending at (AddGroup name members) refl) [] refl
 
-  kept_mails : (u : UserId) → map (λ w. Remove (key_of_notice w)) (filter (is_mail_to u) t.waiting.items) ≡ map (λ n. Remove (notice_key n)) (filter (is_turn (MailTurn u)) (waiting past))
-  kept_mails u =
-      ap (λ ws. map (λ w. Remove (key_of_notice w)) (filter (is_mail_to u) ws)) holds.waiting
-      ∙ (ap (map (λ w. Remove (key_of_notice w))) (filter-map (is_mail_to u) notice_kept (waiting past))
-      ∙ (keys_of_notices (filter (is_mail_of u) (waiting past))
-      ∙ ap (map (λ n. Remove (notice_key n))) (filter_same (is_mail_of u) (is_turn (MailTurn u)) (λ n. turn_of_mail u n.user n.way) (waiting past))))
+  pub no-changes_member : (at : ℕ) (group : GroupId) (user : UserId) (on : Bool) → changed_all [] (rows past) ≡ rows (past ++ record { at = at; event = Asked (Member group user on) } ∷ [])
+  no-changes_member at group user on = made (record { at = at; event = Asked (Member group user on) }) [] (nothing_pending at (Member group user on) refl) [] refl
 
-  -- an event that is no turn and owes nothing changes no pending row
-  no_pending : (e : Event) → ((u : UserId) → is_mail_turn_of u e ≡ false) → (owed : List Notice) → ((map (λ n. Remove (notice_key n)) (filter (is_turn e) (waiting past)) ++ map (λ n. Put (waiting_row n)) owed) ++ []) ≡ map (λ n. Put (waiting_row n)) owed
-  no_pending e never owed = append-nil (map (λ n. Remove (notice_key n)) (filter (is_turn e) (waiting past)) ++ map (λ n. Put (waiting_row n)) owed) ∙ ap (λ ns. map (λ n. Remove (notice_key n)) ns ++ map (λ n. Put (waiting_row n)) owed) (no_turns e never)
+  pub no-changes_channel : (at : ℕ) (name : List ℕ) → changed_all [] (rows past) ≡ rows (past ++ record { at = at; event = Asked (AddChannel name) } ∷ [])
+  no-changes_channel at name = made (record { at = at; event = Asked (AddChannel name) }) [] (nothing_pending at (AddChannel name) refl) [] refl
 
-  pub no-changes_restart : (at : ℕ) → [] ≡ changes past (record { at = at; event = Restart })
-  no-changes_restart at = sym (no_pending Restart (λ u. refl) [])
+  pub no-changes_subscription : (at : ℕ) (user : UserId) (channel : ChannelId) (on : Bool) → changed_all [] (rows past) ≡ rows (past ++ record { at = at; event = Asked (Subscribe user channel on) } ∷ [])
+  no-changes_subscription at user channel on = made (record { at = at; event = Asked (Subscribe user channel on) }) [] (nothing_pending at (Subscribe user channel on) refl) [] refl
 
-  pub no-changes_group : (at : ℕ) (name : List ℕ) (members : List UserId) → [] ≡ changes past (record { at = at; event = Asked (AddGroup name members) })
-  no-changes_group at name members = sym (no_pending (Asked (AddGroup name members)) (λ u. refl) [])
+  pub no-changes_specific : (at : ℕ) (user : UserId) (channel : ChannelId) (change : SpecificChange) → changed_all [] (rows past) ≡ rows (past ++ record { at = at; event = Asked (SetChannel user channel change) } ∷ [])
+  no-changes_specific at user channel change = made (record { at = at; event = Asked (SetChannel user channel change) }) [] (nothing_pending at (SetChannel user channel change) refl) [] refl
 
-  pub no-changes_member : (at : ℕ) (group : GroupId) (user : UserId) (on : Bool) → [] ≡ changes past (record { at = at; event = Asked (Member group user on) })
-  no-changes_member at group user on = sym (no_pending (Asked (Member group user on)) (λ u. refl) [])
+  pub no-changes_policy : (at : ℕ) (user : UserId) (channel : ChannelId) (topic : List ℕ) (policy : Policy) → changed_all [] (rows past) ≡ rows (past ++ record { at = at; event = Asked (SetPolicy user channel topic policy) } ∷ [])
+  no-changes_policy at user channel topic policy = made (record { at = at; event = Asked (SetPolicy user channel topic policy) }) [] (nothing_pending at (SetPolicy user channel topic policy) refl) [] refl
 
-  pub no-changes_channel : (at : ℕ) (name : List ℕ) → [] ≡ changes past (record { at = at; event = Asked (AddChannel name) })
-  no-changes_channel at name = sym (no_pending (Asked (AddChannel name)) (λ u. refl) [])
+  pub no-changes_mute : (at : ℕ) (user other : UserId) (on : Bool) → changed_all [] (rows past) ≡ rows (past ++ record { at = at; event = Asked (Mute user other on) } ∷ [])
+  no-changes_mute at user other on = made (record { at = at; event = Asked (Mute user other on) }) [] (nothing_pending at (Mute user other on) refl) [] refl
 
-  pub no-changes_subscription : (at : ℕ) (user : UserId) (channel : ChannelId) (on : Bool) → [] ≡ changes past (record { at = at; event = Asked (Subscribe user channel on) })
-  no-changes_subscription at user channel on = sym (no_pending (Asked (Subscribe user channel on)) (λ u. refl) [])
+  -- ---- starts and absorbed outcomes
 
-  pub no-changes_specific : (at : ℕ) (user : UserId) (channel : ChannelId) (change : SpecificChange) → [] ≡ changes past (record { at = at; event = Asked (SetChannel user channel change) })
-  no-changes_specific at user channel change = sym (no_pending (Asked (SetChannel user channel change)) (λ u. refl) [])
+  kept_there : (f : List Waiting → List RowChange) → f t.waiting.items ≡ f (all_kept past)
+  kept_there f = ap f holds.waiting
 
-  pub no-changes_policy : (at : ℕ) (user : UserId) (channel : ChannelId) (topic : List ℕ) (policy : Policy) → [] ≡ changes past (record { at = at; event = Asked (SetPolicy user channel topic policy) })
-  no-changes_policy at user channel topic policy = sym (no_pending (Asked (SetPolicy user channel topic policy)) (λ u. refl) [])
+  pub changes-start : (at : ℕ) → changed_all (puts_where is_undecided (readied at) t.waiting.items) (rows past) ≡ rows (past ++ record { at = at; event = Restart } ∷ [])
+  changes-start at =
+      made (record { at = at; event = Restart }) (puts_where is_undecided (readied at) (all_kept past)) (makes_start past at) (puts_where is_undecided (readied at) t.waiting.items)
+      (kept_there (puts_where is_undecided (readied at)) ∙ sym (append-nil (puts_where is_undecided (readied at) (all_kept past))))
 
-  pub no-changes_mute : (at : ℕ) (user other : UserId) (on : Bool) → [] ≡ changes past (record { at = at; event = Asked (Mute user other on) })
-  no-changes_mute at user other on = sym (no_pending (Asked (Mute user other on)) (λ u. refl) [])
+  pub changes-dealt : (at : ℕ) (k : DealNo) (verdicts : List UserVerdict) (idle live : List UserId) → ((u : UserId) → is_one_of idle u ≡ gives_idle verdicts u) → ((u : UserId) → is_one_of live u ≡ gives_live verdicts u)
+      → changed_all (puts_where (is_undecided_of k) (dealt_to at idle live) t.waiting.items) (rows past) ≡ rows (past ++ record { at = at; event = Absorbed (Dealt k verdicts) } ∷ [])
+  changes-dealt at k verdicts idle live are_idle are_live =
+      made (record { at = at; event = Absorbed (Dealt k verdicts) }) (puts_where (is_undecided_of k) (dealt_to at idle live) (all_kept past)) (makes_dealt past at k verdicts idle live are_idle are_live) (puts_where (is_undecided_of k) (dealt_to at idle live) t.waiting.items)
+      (kept_there (puts_where (is_undecided_of k) (dealt_to at idle live)) ∙ sym (append-nil (puts_where (is_undecided_of k) (dealt_to at idle live) (all_kept past))))
+
+  pub changes-cleared : (at : ℕ) (u : UserId) (deals : List DealNo) (q : QueueId)
+      → changed_all (flat_map (λ test. removes_where test t.waiting.items) (named_by u deals)) (rows past) ≡ rows (past ++ record { at = at; event = Absorbed (Cleared u deals q) } ∷ [])
+  changes-cleared at u deals q =
+      let f = λ (ws : List Waiting). flat_map (λ test. removes_where test ws) (named_by u deals) in
+      made (record { at = at; event = Absorbed (Cleared u deals q) }) (f (all_kept past)) (makes_cleared past at u deals q) (f t.waiting.items) (kept_there f ∙ sym (append-nil (f (all_kept past))))
+
+  pub changes-missed : (at : ℕ) (u : UserId) (deals : List DealNo)
+      → changed_all (flat_map (λ test. puts_where test (readied at) t.waiting.items) (named_by u deals)) (rows past) ≡ rows (past ++ record { at = at; event = Absorbed (Missed u deals) } ∷ [])
+  changes-missed at u deals =
+      let f = λ (ws : List Waiting). flat_map (λ test. puts_where test (readied at) ws) (named_by u deals) in
+      made (record { at = at; event = Absorbed (Missed u deals) }) (f (all_kept past)) (makes_missed past at u deals) (f t.waiting.items) (kept_there f ∙ sym (append-nil (f (all_kept past))))
 
   -- a user who isn't there has set nothing
   new_settings : settings past (record { 0 = length (people past) + 1 }) ≡ default_settings
@@ -241,50 +266,55 @@ module _ (t : Tables) (past : List Stamped) (holds : Holds t past) where
       ap (λ (p : Preferred). p.settings) (sym (holds.preferences (record { 0 = length (people past) + 1 })))
       ∙ ap (λ (p : Preferred). p.settings) (ap (λ n. preferred_in t.preferences.items (n + 1)) (sym holds.preferences_long) ∙ ap (λ o. option_map_or preferred o default_preferred) long)
 
-  pub changes-user : (at : ℕ) (name : List ℕ) (bot : Bool) (n : ℕ) → n ≡ length t.names.items → Put (row.User (record { 0 = n + 1 }) name bot default_settings) ∷ [] ≡ changes past (record { at = at; event = Asked (AddUser name bot) })
+  pub changes-user : (at : ℕ) (name : List ℕ) (bot : Bool) (n : ℕ) → n ≡ length t.names.items → changed_all (Put (row.User (record { 0 = n + 1 }) name bot default_settings) ∷ []) (rows past) ≡ rows (past ++ record { at = at; event = Asked (AddUser name bot) } ∷ [])
   changes-user at name bot n many =
-      ap (λ n. Put (row.User (record { 0 = n + 1 }) name bot default_settings) ∷ []) (many ∙ names_long t past holds)
-      ∙ (ap (λ s. Put (row.User (record { 0 = length (people past) + 1 }) name bot s) ∷ []) (sym new_settings)
-      ∙ ap (λ cs. Put (row.User (record { 0 = length (people past) + 1 }) name bot (settings past (record { 0 = length (people past) + 1 }))) ∷ cs) (sym (no_pending (Asked (AddUser name bot)) (λ u. refl) [])))
+      made (record { at = at; event = Asked (AddUser name bot) }) [] (nothing_pending at (AddUser name bot) refl) (Put (row.User (record { 0 = n + 1 }) name bot default_settings) ∷ [])
+      (ap (λ n. Put (row.User (record { 0 = n + 1 }) name bot default_settings) ∷ []) (many ∙ names_long t past holds)
+      ∙ ap (λ s. Put (row.User (record { 0 = length (people past) + 1 }) name bot s) ∷ []) (sym new_settings))
 
   -- a switch of a user who is there, or of nobody
-  pub changes-setting : (at : ℕ) (user : UserId) (change : SettingChange) → map Put (option_to_list (option_map (λ (p : Person). row.User user p.name p.bot (changed_settings change (settings past user))) (person past user))) ≡ changes past (record { at = at; event = Asked (Set user change) })
+  pub changes-setting : (at : ℕ) (user : UserId) (change : SettingChange)
+      → changed_all (map Put (option_to_list (option_map (λ (p : Person). row.User user p.name p.bot (changed_settings change (settings past user))) (person past user)))) (rows past) ≡ rows (past ++ record { at = at; event = Asked (Set user change) } ∷ [])
   changes-setting at user change =
       let puts = map Put (option_to_list (option_map (λ (p : Person). row.User user p.name p.bot (changed_settings change (settings past user))) (person past user))) in
-      sym (ap (λ cs. puts ++ cs) (no_pending (Asked (Set user change)) (λ u. refl) []) ∙ append-nil puts)
+      made (record { at = at; event = Asked (Set user change) }) [] (nothing_pending at (Set user change) refl) puts (sym (append-nil puts))
 
-  pub changes-send : (at : ℕ) (k : Message) (n : ℕ) (ws : List Waiting) → n ≡ length t.messages.items → ws ≡ map notice_kept (owed_by (occurrence past (send_of at k)))
-      → Put (row.Message (record { 0 = n + 1 }) k.sender k.text false) ∷ map (λ w. Put (notice_row w)) ws ≡ changes past (send_of at k)
+  pub changes-send : (at : ℕ) (k : Message) (n : ℕ) (ws : List Waiting) → n ≡ length t.messages.items → ws ≡ map in_flight (owed_by (occurrence past (send_of at k)))
+      → changed_all (Put (row.Message (record { 0 = n + 1 }) k.sender k.text false) ∷ map (λ w. Put (notice_row w)) ws) (rows past) ≡ rows (past ++ send_of at k ∷ [])
   changes-send at k n ws many are =
-      ap (λ n. Put (row.Message (record { 0 = n + 1 }) k.sender k.text false) ∷ map (λ w. Put (notice_row w)) ws) (many ∙ messages_long t past holds)
-      ∙ (ap (λ cs. Put (row.Message (record { 0 = length (messages past) + 1 }) k.sender k.text false) ∷ cs)
-      (ap (map (λ w. Put (notice_row w))) are ∙ rows_of_notices (owed_by (occurrence past (send_of at k))))
-      ∙ by k.to k.sender k.text (owed_by (occurrence past (send_of at k))) refl)
+      ap (λ cs. changed_all cs (rows past)) (ap (λ n. Put (row.Message (record { 0 = n + 1 }) k.sender k.text false) ∷ map (λ w. Put (notice_row w)) ws) (many ∙ messages_long t past holds)
+      ∙ ap (λ ws. Put (row.Message (record { 0 = length (messages past) + 1 }) k.sender k.text false) ∷ map (λ w. Put (notice_row w)) ws) are)
+      ∙ by k.to k.sender k.text
     where
-      by : (to : Destination) (sender : UserId) (text : List ℕ) (owed : List Notice) → owed ≡ owed_by (occurrence past (record { at = at; event = Asked (request_to sender to text) }))
-          → Put (row.Message (record { 0 = length (messages past) + 1 }) sender text false) ∷ map (λ n. Put (waiting_row n)) owed ≡ changes past (record { at = at; event = Asked (request_to sender to text) })
-      by (destination.Channel channel topic) sender text owed e =
-          ap (λ cs. Put (row.Message (record { 0 = length (messages past) + 1 }) sender text false) ∷ cs)
-          (ap (map (λ n. Put (waiting_row n))) e ∙ sym (no_pending (Asked (Send sender channel topic text)) (λ u. refl) (owed_by (occurrence past (record { at = at; event = Asked (Send sender channel topic text) })))))
-      by (destination.Direct to) sender text owed e =
-          ap (λ cs. Put (row.Message (record { 0 = length (messages past) + 1 }) sender text false) ∷ cs)
-          (ap (map (λ n. Put (waiting_row n))) e ∙ sym (no_pending (Asked (Direct sender to text)) (λ u. refl) (owed_by (occurrence past (record { at = at; event = Asked (Direct sender to text) })))))
+      by : (to : Destination) (sender : UserId) (text : List ℕ)
+          → changed_all (Put (row.Message (record { 0 = length (messages past) + 1 }) sender text false) ∷ map (λ w. Put (notice_row w)) (map in_flight (owed_by (occurrence past (record { at = at; event = Asked (request_to sender to text) }))))) (rows past)
+          ≡ rows (past ++ record { at = at; event = Asked (request_to sender to text) } ∷ [])
+      by (destination.Channel channel topic) sender text =
+          let s : Stamped = record { at = at; event = Asked (Send sender channel topic text) } in
+          let new = map (λ w. Put (notice_row w)) (map in_flight (owed_by (occurrence past s))) in
+          made s new (makes_left past s (λ u. refl) (λ u k online. refl) (λ u k. refl) (λ k. refl)) (Put (row.Message (record { 0 = length (messages past) + 1 }) sender text false) ∷ new)
+          (ap (λ cs. Put (row.Message (record { 0 = length (messages past) + 1 }) sender text false) ∷ cs) (sym (append-nil new)))
+      by (destination.Direct to) sender text =
+          let s : Stamped = record { at = at; event = Asked (Direct sender to text) } in
+          let new = map (λ w. Put (notice_row w)) (map in_flight (owed_by (occurrence past s))) in
+          made s new (makes_left past s (λ u. refl) (λ u k online. refl) (λ u k. refl) (λ k. refl)) (Put (row.Message (record { 0 = length (messages past) + 1 }) sender text false) ∷ new)
+          (ap (λ cs. Put (row.Message (record { 0 = length (messages past) + 1 }) sender text false) ∷ cs) (sym (append-nil new)))
 
   pub changes-mails : (at : ℕ) (user : UserId) (n : ℕ) (es : List Entry) → n ≡ length t.outbox.items → es ≡ mail_entries past at user
-      → map (λ w. Remove (key_of_notice w)) (filter (is_mail_to user) t.waiting.items) ++ map Put (outbox_rows_from (n + 1) es) ≡ changes past (record { at = at; event = MailTurn user })
+      → changed_all (removes_where (is_ready_mail_to user) t.waiting.items ++ map Put (outbox_rows_from (n + 1) es)) (rows past) ≡ rows (past ++ record { at = at; event = MailTurn user } ∷ [])
   changes-mails at user n es many are =
-      let removes = map (λ n. Remove (notice_key n)) (filter (is_turn (MailTurn user)) (waiting past)) in
-      ap (λ cs. cs ++ map Put (outbox_rows_from (n + 1) es)) (kept_mails user ∙ sym (append-nil removes))
-      ∙ (ap (λ n. (removes ++ []) ++ map Put (outbox_rows_from (n + 1) es)) (many ∙ ap length holds.outbox)
-      ∙ ap (λ es. (removes ++ []) ++ map Put (outbox_rows_from (length (outbox past) + 1) es)) are)
+      made (record { at = at; event = MailTurn user }) (removes_where (is_ready_mail_to user) (all_kept past)) (makes_mails past at user) (removes_where (is_ready_mail_to user) t.waiting.items ++ map Put (outbox_rows_from (n + 1) es))
+      (ap (λ cs. cs ++ map Put (outbox_rows_from (n + 1) es)) (kept_there (removes_where (is_ready_mail_to user)))
+      ∙ (ap (λ n. removes_where (is_ready_mail_to user) (all_kept past) ++ map Put (outbox_rows_from (n + 1) es)) (many ∙ ap length holds.outbox)
+      ∙ ap (λ es. removes_where (is_ready_mail_to user) (all_kept past) ++ map Put (outbox_rows_from (length (outbox past) + 1) es)) are))
 
 -- each batch row is an entry or switched off
 pub mail_entries-long : (past : List Stamped) (at : ℕ) (u : UserId) → length (mail_entries past at u) + switched_at past u ≡ length (batch_rows past u)
 mail_entries-long past at u =
-    let rows = ap length (by_message-batch_rows past u ∙ sym (batch_rows-waiting past u)) in
-    by (switch_on past u Mail) (length-map (by_message (batch_rows past u)) (mail_entry past at) ∙ rows)
+    let many = ap length (by_message-mailed past u ∙ sym (batch_rows-waiting past u)) in
+    by (switch_on past u Mail) (length-map (by_message (mailed past u)) (mail_entry past at) ∙ many)
   where
-    by : (on : Bool) → length (map (mail_entry past at) (by_message (batch_rows past u))) ≡ length (batch_rows past u) → length (if on then map (mail_entry past at) (by_message (batch_rows past u)) else []) + (if on then 0 else length (batch_rows past u)) ≡ length (batch_rows past u)
+    by : (on : Bool) → length (map (mail_entry past at) (by_message (mailed past u))) ≡ length (batch_rows past u) → length (if on then map (mail_entry past at) (by_message (mailed past u)) else []) + (if on then 0 else length (batch_rows past u)) ≡ length (batch_rows past u)
     by true e = omega arith
     by false e = omega arith
 

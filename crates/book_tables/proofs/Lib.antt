@@ -1,8 +1,15 @@
 pub mod Steps
 pub mod Numbered
-pub mod PendingRows
+pub mod Sought
+pub mod Ordered
+pub mod Moves
+pub mod Kept
+pub mod NewRows
 pub mod UserRows
+pub mod RowMoves
 pub mod RowsAfter
+pub mod RowSteps
+pub mod Cancelled
 pub mod UserSets
 pub mod PreferenceLemmas
 pub mod SetSizes

@@ -13,15 +13,14 @@ use Rattle.chat_model.specs.declared.row.RowChange.TheVariants.{Put}
 use Rattle.chat_model.specs.declared.entry.Entry.{Entry}
 use Rattle.chat_model.specs.Rows.{changed_all}
 use Rattle.notice_ledger.specs.Past.Values.{numbered, Person, people, named_from, SentMessage, messages, is_bot, settings}
-use Rattle.notice_ledger.specs.Past.Owed.{Notice, waiting}
 use Rattle.notice_ledger.specs.Past.Outbox.{outbox}
 use Rattle.notice_ledger.specs.Past.Rows.{user_rows_from, message_rows_from, outbox_rows_from, rows}
 use Rattle.notice_ledger.proofs.RowOrder.{rows-changed_all}
 use Rattle.book_tables.specs.declared.tables.Tables.{Tables}
-use Rattle.book_tables.specs.Tables.{Holds, notice_kept}
-use Rattle.book_tables.specs.Changes.{waiting_row}
+use Rattle.book_tables.specs.Tables.{Holds}
+use Rattle.book_tables.specs.declared.tables.Waiting.{Waiting}
 use Rattle.book_tables.specs.Prepared.{notice_row}
-use Rattle.book_tables.proofs.PendingRows.{pending_rows-waiting}
+use Rattle.book_tables.proofs.RowsAfter.{all_kept, pending_rows-kept}
 
 -- the rows of a list, the first with this number
 abbrev pub rows_by : {A : Type 0} → (ℕ → A → Row) → ℕ → List A → List Row
@@ -85,9 +84,9 @@ message_rows-by n (m ∷ ms) = ap (λ rs. message_row n m ∷ rs) (message_rows-
 -- ---- all rows
 
 -- the puts of the notices that wait
-notices_put : (ns : List Notice) → map (λ w. Put (notice_row w)) (map notice_kept ns) ≡ map Put (map waiting_row ns)
+notices_put : (ws : List Waiting) → map (λ w. Put (notice_row w)) ws ≡ map Put (map notice_row ws)
 notices_put [] = refl
-notices_put (n ∷ ns) = ap (λ cs. Put (waiting_row n) ∷ cs) (notices_put ns)
+notices_put (w ∷ ws) = ap (λ cs. Put (notice_row w) ∷ cs) (notices_put ws)
 
 joined : (us ms ps os : List Row) → ((map Put us ++ map Put ms) ++ map Put ps) ++ map Put os ≡ map Put (us ++ (ms ++ (ps ++ os)))
 joined us ms ps os = simp (append_assoc, map-append)
@@ -96,15 +95,15 @@ joined us ms ps os = simp (append_assoc, map-append)
 pub rows_put : (t : Tables) (past : List Stamped) → Holds t past → (users all waits entries : List RowChange) → users ≡ map Put (user_rows_from past 1 (people past)) → all ≡ users ++ map Put (message_rows_from 1 (messages past))
     → waits ≡ all ++ map (λ w. Put (notice_row w)) t.waiting.items → entries ≡ waits ++ map Put (outbox_rows_from 1 t.outbox.items) → changed_all entries [] ≡ rows past
 rows_put t past h users all waits entries are_users are_messages are_waits are_entries =
-    let us = user_rows_from past 1 (people past) in let ms = message_rows_from 1 (messages past) in let ps = map waiting_row (waiting past) in let os = outbox_rows_from 1 (outbox past) in
+    let us = user_rows_from past 1 (people past) in let ms = message_rows_from 1 (messages past) in let ps = map notice_row (all_kept past) in let os = outbox_rows_from 1 (outbox past) in
     let put_messages : all ≡ map Put us ++ map Put ms = are_messages ∙ ap (λ (cs : List RowChange). cs ++ map Put ms) are_users in
     let put_waits : waits ≡ (map Put us ++ map Put ms) ++ map Put ps =
     are_waits
     ∙ (ap (λ (cs : List RowChange). cs ++ map (λ w. Put (notice_row w)) t.waiting.items) put_messages
-    ∙ ap (λ (cs : List RowChange). (map Put us ++ map Put ms) ++ cs) (ap (map (λ w. Put (notice_row w))) h.waiting ∙ notices_put (waiting past))) in
+    ∙ ap (λ (cs : List RowChange). (map Put us ++ map Put ms) ++ cs) (ap (map (λ w. Put (notice_row w))) h.waiting ∙ notices_put (all_kept past))) in
     let put_entries : entries ≡ ((map Put us ++ map Put ms) ++ map Put ps) ++ map Put os =
     are_entries
     ∙ (ap (λ (cs : List RowChange). cs ++ map Put (outbox_rows_from 1 t.outbox.items)) put_waits
     ∙ ap (λ (es : List Entry). ((map Put us ++ map Put ms) ++ map Put ps) ++ map Put (outbox_rows_from 1 es)) h.outbox) in
     ap (λ (cs : List RowChange). changed_all cs []) (put_entries ∙ joined us ms ps os)
-    ∙ (ap (λ (rs : List Row). changed_all (map Put (us ++ (ms ++ (rs ++ os)))) []) (sym (pending_rows-waiting past)) ∙ sym (rows-changed_all past))
+    ∙ (ap (λ (rs : List Row). changed_all (map Put (us ++ (ms ++ (rs ++ os)))) []) (sym (pending_rows-kept past)) ∙ sym (rows-changed_all past))

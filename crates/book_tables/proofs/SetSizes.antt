@@ -13,7 +13,7 @@ use Rattle.notice_ledger.specs.Past.Values.{numbered, people, is_user, is_one_of
 use Rattle.notice_ledger.specs.InOrder.{is_ascending}
 use Rattle.chat_model.specs.Ascending.{put_once_by}
 use Rattle.chat_model.proofs.OnceEach.{ascending-below, ascending-cons, put_once-cases, put_once-ascending}
-use Rattle.notice_ledger.proofs.Ascending.{AllByRecursion-filter}
+use Rattle.notice_ledger.proofs.Lists.{AllByRecursion-filter}
 use Rattle.notice_ledger.proofs.InOrder.{ascending-distinct, ascending-rest}
 use Rattle.book_tables.proofs.Numbered.{if_numbered}
 use Rattle.book_tables.specs.declared.user_set.UserSet.{UserSet}

@@ -1,6 +1,6 @@
 -- The least due moment, found in one pass over the notices that wait.
-use Rattle.std.proofs.Common.{◌≡◌, ℕ, zero, suc, ◌+◌, ◌<◌, ◌≤◌, Bool, true, false, ◌&&◌, ◌||◌, ◌==◌, cond, List, [], ◌∷◌, ◌++◌, Option, Some, None, length, map, refl, sym, ap, ◌∙◌, subst, ◌⊎◌, inl, inr, ⊎_elim, arith}
-use Rattle.std.specs.Prelude.{option_map, nat_lt, nat_le, find, fold, filter, not, option_to_list, if◌then◌else◌}
+use Rattle.std.proofs.Common.{◌≡◌, ℕ, zero, suc, ◌+◌, ◌<◌, ◌≤◌, Bool, true, false, ◌&&◌, ◌||◌, ◌==◌, List, [], ◌∷◌, ◌++◌, Option, Some, None, length, map, refl, sym, ap, ◌∙◌, subst, ◌⊎◌, inl, inr, ⊎_elim, arith}
+use Rattle.std.specs.Prelude.{option_map, nat_lt, nat_le, fold, option_to_list, if◌then◌else◌}
 use Rattle.std.specs.Option.{option_map_or}
 use Rattle.std.specs.List.{AllByRecursion, filter_map, flat_map, cons_option, reduce, range_with_len}
 use Rattle.std.proofs.lemmas.Bool.{cases_lt, ltb-true, eqb-true, eq-eqb}
@@ -10,25 +10,25 @@ use Rattle.chat_model.specs.declared.event.Stamped.{Stamped}
 use Rattle.chat_model.specs.declared.ids.UserId.{UserId}
 use Rattle.chat_model.specs.declared.trigger.Way.{Way}
 use Rattle.chat_model.specs.declared.trigger.Way.TheVariants.{Mail, Push}
-use Rattle.notice_ledger.specs.Past.Journal.{Occurrence, occurrence, last_stamp}
+use Rattle.notice_ledger.specs.Past.Journal.{Occurrence, occurrence}
 use Rattle.chat_model.specs.declared.trigger.Trigger.{Trigger}
 use Rattle.notice_ledger.specs.Past.Values.{SentMessage, message_of, person_of, people, users, messages, deal_count}
 use Rattle.notice_ledger.specs.Past.Triggers.{trigger, came_by}
-use Rattle.notice_ledger.specs.Past.Owed.{Notice, waiting, owed_by, owed_of, notice_of, same_way}
+use Rattle.notice_ledger.specs.Past.Owed.{Notice, notices, account_of, is_pending, waiting, owed_by, owed_of, notice_of}
 use Rattle.notice_ledger.specs.Past.Due.{DueUser, due_user, first_due, sooner}
-use Rattle.notice_ledger.specs.Past.Lawful as past
-use Rattle.notice_ledger.specs.Lawful.{kept_from, lawful}
-use Rattle.notice_ledger.proofs.Lists.{AllByRecursion-append, AllByRecursion-weaker}
-use Rattle.notice_ledger.proofs.Appended.{people-append, last_stamp-append}
-use Rattle.notice_ledger.proofs.Ascending.{Ascends, Ascends-append, Ascends-filter, Ascends-level, AllByRecursion-filter}
-use Rattle.notice_ledger.proofs.Waiting.{IsOwedBy, owed_by-each, is_turn, waiting-append, waiting-nil}
-use Rattle.notice_ledger.proofs.SettingLemmas.{settings-period}
-use Rattle.notice_ledger.proofs.Batches.{is_mail_of, due-waiting}
+use Rattle.notice_ledger.proofs.Lists.{AllByRecursion-append, AllByRecursion-weaker, AllByRecursion-filter, by_appending}
+use Rattle.notice_ledger.proofs.Appended.{notices-nil, notices-append, people-append}
+use Rattle.notice_ledger.proofs.Ascending.{Ascends}
+use Rattle.notice_ledger.proofs.Stamps.{AreStamped}
+use Rattle.book_tables.specs.declared.tables.Standing.{Standing}
+use Rattle.book_tables.specs.declared.tables.Standing.TheVariants.{Flight, Held, Ready}
+use Rattle.book_tables.specs.Notices.{rank}
+use Rattle.book_tables.proofs.Standing.{due-there}
 use Rattle.book_tables.specs.declared.tables.Waiting.{Waiting}
 use Rattle.book_tables.specs.declared.tables.Tables.{Tables}
 use Rattle.book_tables.specs.Tables.{Holds, notice_kept}
 use Rattle.book_tables.proofs.Steps.{filter_map-push, reduce-push}
-use Rattle.book_tables.specs.Soonest.{due_by, due_of, sooner_of}
+use Rattle.book_tables.specs.Soonest.{since, ready_mail, lesser, due_by, due_of, sooner_of}
 
 -- the least due moment among these
 abbrev pub soonest : List Waiting → Option DueUser
@@ -43,6 +43,16 @@ soonest-push ws w d e =
 pub soonest-push_none : (ws : List Waiting) (w : Waiting) → None ≡ due_of w → soonest (ws ++ w ∷ []) ≡ soonest ws
 soonest-push_none ws w e =
     ap (reduce sooner_of) (filter_map-push due_of ws w ∙ (ap (λ o. filter_map due_of ws ++ cons_option o []) (sym e) ∙ append-nil (filter_map due_of ws)))
+
+-- one more notice, that gives a stamp
+pub stamps-push : (u : UserId) (ws : List Waiting) (w : Waiting) (at : ℕ) → Some at ≡ ready_mail u w → reduce lesser (filter_map (ready_mail u) (ws ++ w ∷ [])) ≡ Some (option_map_or (λ a. lesser a at) (reduce lesser (filter_map (ready_mail u) ws)) at)
+stamps-push u ws w at e =
+    ap (reduce lesser) (filter_map-push (ready_mail u) ws w ∙ ap (λ o. filter_map (ready_mail u) ws ++ cons_option o []) (sym e)) ∙ reduce-push lesser (filter_map (ready_mail u) ws) at
+
+-- one more notice, that gives none
+pub stamps-push_none : (u : UserId) (ws : List Waiting) (w : Waiting) → None ≡ ready_mail u w → reduce lesser (filter_map (ready_mail u) (ws ++ w ∷ [])) ≡ reduce lesser (filter_map (ready_mail u) ws)
+stamps-push_none u ws w e =
+    ap (reduce lesser) (filter_map-push (ready_mail u) ws w ∙ (ap (λ o. filter_map (ready_mail u) ws ++ cons_option o []) (sym e) ∙ append-nil (filter_map (ready_mail u) ws)))
 
 -- ---- the order of due users
 
@@ -177,30 +187,11 @@ same_least (c ∷ cs) (d ∷ ds) within above up =
     (fold-holds (Before least) sooner (sooner-holds (Before least)) d ds low.0 low.1)
     (fold-holds (Before first) sooner_of (sooner_of-holds (Before first)) c cs high.0 high.1))
 
--- ---- notices that wait after lawful events
-
--- what holds of no event, and goes on at each lawful one, holds of the lawful events
-kept_all : (P : List Stamped → Type 0) → ((k : List Stamped) (s : Stamped) → P k → past.is_lawful_after k s ≡ true → P (k ++ s ∷ [])) → (kept j : List Stamped) → P kept → P (kept_from kept j)
-kept_all P step kept [] h = h
-kept_all P step kept (s ∷ ss) h = by (past.is_lawful_after kept s) refl (λ more k. kept_all P step more ss k)
-  where
-    by : (b : Bool) → past.is_lawful_after kept s ≡ b → ((more : List Stamped) → P more → P (kept_from more ss)) → P (kept_from (if b then kept ++ s ∷ [] else kept) ss)
-    by true e rest = rest (kept ++ s ∷ []) (step kept s h e)
-    by false e rest = rest kept h
-
-pub lawful_all : (P : List Stamped → Type 0) → P [] → ((k : List Stamped) (s : Stamped) → P k → past.is_lawful_after k s ≡ true → P (k ++ s ∷ [])) → (j : List Stamped) → P (lawful j)
-unfolding lawful
-lawful_all P none step j = kept_all P step [] j none
+-- ---- the users who are there
 
 -- the user is one of the first so many
 abbrev pub IsWithin : ℕ → UserId → Type 0
 IsWithin n u = (0 < u.0) × (u.0 ≤ n)
-
--- the notices wait in the order in which they became ready, for users who are there
-pub record Waits (j : List Stamped) : Type 0 where
-  pub ascends : Ascends (λ n. n.owing.at) (waiting j)
-  pub by_now : AllByRecursion (λ n. n.owing.at ≤ last_stamp j) (waiting j)
-  pub there : AllByRecursion (λ n. IsWithin (length (people j)) n.user) (waiting j)
 
 in_range : (P : UserId → Type 0) (start len : ℕ) → ((n : ℕ) → start ≤ n → n < start + len → P (record { 0 = n })) → AllByRecursion P (map (λ n. let u : UserId = record { 0 = n } in u) (range_with_len start len))
 in_range P start zero h = tt
@@ -241,141 +232,161 @@ owed-within o =
     to_user : (m : SentMessage) (u : UserId) → IsWithin (length (people o.past)) u → AllByRecursion (λ n. IsWithin (length (people o.past)) n.user) (filter_map (notice_of o m u) (Mail ∷ Push ∷ []))
     to_user m u it = given m u Mail (trigger o.past m m.text u Mail) it (cons_option (notice_of o m u Push) []) (given m u Push (trigger o.past m m.text u Push) it [] tt)
 
-waits-nil : Waits []
-waits-nil = record {
-  ascends = rw waiting-nil tt;
-  by_now = rw waiting-nil tt;
-  there = rw waiting-nil tt;
-}
-
-waits-next : (j : List Stamped) (s : Stamped) → Waits j → past.is_lawful_after j s ≡ true → Waits (j ++ s ∷ [])
-waits-next j s w next =
-    let left : List Notice = filter (λ n. not (is_turn s n)) (waiting j) in
-    let o = occurrence j s in
-    let low : last_stamp j ≤ s.at = not_below (last_stamp j) s.at (past.may_stand j s.at s.event) next in
+notices-within : (j : List Stamped) → AllByRecursion (λ n. IsWithin (length (people j)) n.user) (notices j)
+notices-within = by_appending (λ j. AllByRecursion (λ n. IsWithin (length (people j)) n.user) (notices j)) (rw notices-nil tt) (λ j s h.
     let many : length (people (j ++ s ∷ [])) ≡ length (people j) + length (option_to_list (person_of s.event)) = ap length (people-append j s) ∙ length-append (people j) (option_to_list (person_of s.event)) in
-    let each = owed_by-each o in record {
-      ascends = rw (waiting-append j s) (Ascends-append (λ (n : Notice). n.owing.at) (last_stamp j) left (owed_by o)
-          (Ascends-filter (λ (n : Notice). n.owing.at) (λ n. not (is_turn s n)) (waiting j) w.ascends)
-          (AllByRecursion-filter (λ n. n.owing.at ≤ last_stamp j) (λ n. not (is_turn s n)) (waiting j) w.by_now)
-          (Ascends-level (λ (n : Notice). n.owing.at) s.at (owed_by o) (AllByRecursion-weaker (IsOwedBy o) (λ n. n.owing.at ≡ s.at) (λ n i. ap (λ (p : Occurrence). p.at) i.owing) (owed_by o) each))
-          (AllByRecursion-weaker (IsOwedBy o) (λ n. last_stamp j ≤ n.owing.at) (λ n i. omega (arith, low, ap (λ (p : Occurrence). p.at) i.owing)) (owed_by o) each));
-      by_now = rw (waiting-append j s, last_stamp-append j s) (AllByRecursion-append (λ n. n.owing.at ≤ s.at) left (owed_by o)
-          (AllByRecursion-weaker (λ n. n.owing.at ≤ last_stamp j) (λ n. n.owing.at ≤ s.at) (λ n le. omega (arith, low, le)) left (AllByRecursion-filter (λ n. n.owing.at ≤ last_stamp j) (λ n. not (is_turn s n)) (waiting j) w.by_now))
-          (AllByRecursion-weaker (IsOwedBy o) (λ n. n.owing.at ≤ s.at) (λ n i. omega (arith, ap (λ (p : Occurrence). p.at) i.owing)) (owed_by o) each));
-      there = rw (waiting-append j s) (AllByRecursion-append (λ n. IsWithin (length (people (j ++ s ∷ []))) n.user) left (owed_by o)
-          (AllByRecursion-weaker (λ n. IsWithin (length (people j)) n.user) (λ n. IsWithin (length (people (j ++ s ∷ []))) n.user) (λ n i. (i.0, omega (arith, many, i.1))) left (AllByRecursion-filter (λ n. IsWithin (length (people j)) n.user) (λ n. not (is_turn s n)) (waiting j) w.there))
-          (AllByRecursion-weaker (λ n. IsWithin (length (people j)) n.user) (λ n. IsWithin (length (people (j ++ s ∷ []))) n.user) (λ n i. (i.0, omega (arith, many, i.1))) (owed_by o) (owed-within o)));
-    }
-  where
-    not_below : (last at : ℕ) (b : Bool) → (nat_le last at && b) ≡ true → last ≤ at
-    not_below last at b h = by (nat_le last at) refl h
-      where
-        by : (t : Bool) → nat_le last at ≡ t → (t && b) ≡ true → last ≤ at
-        by true e h = grind (arith, nat_tests)
-        by false e h = absurd (cc)
+    let grown = λ (n : Notice) (i : IsWithin (length (people j)) n.user). (let r : IsWithin (length (people (j ++ s ∷ []))) n.user = (i.0, omega (arith, many, i.1)) in r) in
+    rw (notices-append j s) (AllByRecursion-append (λ n. IsWithin (length (people (j ++ s ∷ []))) n.user) (notices j) (owed_by (occurrence j s))
+    (AllByRecursion-weaker (λ n. IsWithin (length (people j)) n.user) (λ n. IsWithin (length (people (j ++ s ∷ []))) n.user) grown (notices j) h)
+    (AllByRecursion-weaker (λ n. IsWithin (length (people j)) n.user) (λ n. IsWithin (length (people (j ++ s ∷ []))) n.user) grown (owed_by (occurrence j s)) (owed-within (occurrence j s)))))
 
-pub lawful-waits : (j : List Stamped) → Waits (lawful j)
-lawful-waits j = lawful_all Waits waits-nil waits-next j
+-- the notices that wait are for users who are there
+kept-within : (j : List Stamped) → AllByRecursion (λ w. IsWithin (length (people j)) w.user) (map (notice_kept j) (waiting j))
+unfolding waiting
+kept-within j = each (waiting j) (AllByRecursion-filter (λ n. IsWithin (length (people j)) n.user) (λ n. is_pending (account_of j n)) (notices j) (notices-within j))
+  where
+    each : (ns : List Notice) → AllByRecursion (λ n. IsWithin (length (people j)) n.user) ns → AllByRecursion (λ w. IsWithin (length (people j)) w.user) (map (notice_kept j) ns)
+    each [] all = tt
+    each (n ∷ ns) all = (all.0, each ns all.1)
 
 -- ---- the first who is due
 
--- of notices that became ready in this order, a user's first mail is ready first
-abbrev HasFirst : List Notice → Notice → Type 0
-HasFirst ns n = same_way n.way Mail ≡ true → (m : Notice) × (find (is_mail_of n.user) ns ≡ Some m) × (m.owing.at ≤ n.owing.at)
+-- the list has the number
+abbrev list_has : ℕ → List ℕ → Type 0
+list_has at [] = ⊥
+list_has at (n ∷ ns) = (n ≡ at) ⊎ list_has at ns
 
-first_mails : (ns : List Notice) → Ascends (λ n. n.owing.at) ns → AllByRecursion (HasFirst ns) ns
-first_mails [] up = tt
-first_mails (x ∷ xs) up = (
-  λ mail. (x, ap (λ b. cond b (Some x) (find (is_mail_of x.user) xs)) (itself x mail), omega arith),
-  joined xs up.0 (first_mails xs up.1),
-)
+-- the lesser of two stamps, and the least of some
+lesser-both : (a b : ℕ) → (lesser a b ≤ a) × (lesser a b ≤ b)
+lesser-both a b = elim (nat_lt b a) as (λ t. nat_lt b a ≡ t → ((if t then b else a) ≤ a) × ((if t then b else a) ≤ b)) [
+  | true ↦ λ h. (below a b h, omega arith)
+  | false ↦ λ h. (omega arith, above a b h)
+] refl
   where
-    itself : (x : Notice) → same_way x.way Mail ≡ true → is_mail_of x.user x ≡ true
-    itself x mail = ap (λ b. b && same_way x.way Mail) (eq-eqb x.user.0 x.user.0 refl) ∙ mail
+    below : (a b : ℕ) → nat_lt b a ≡ true → b ≤ a
+    below a b h = grind (arith, nat_tests)
 
-    later : (n : Notice) → x.owing.at ≤ n.owing.at → HasFirst xs n → HasFirst (x ∷ xs) n
-    later n le first = λ mail.
-        elim (is_mail_of n.user x) as (λ b. (m : Notice) × (cond b (Some x) (find (is_mail_of n.user) xs) ≡ Some m) × (m.owing.at ≤ n.owing.at)) [
-          | true ↦ (x, refl, le)
-          | false ↦ first mail
-        ]
+    above : (a b : ℕ) → nat_lt b a ≡ false → a ≤ b
+    above a b h = grind (arith, nat_tests)
 
-    joined : (ns : List Notice) → AllByRecursion (λ y. x.owing.at ≤ y.owing.at) ns → AllByRecursion (HasFirst xs) ns → AllByRecursion (HasFirst (x ∷ xs)) ns
-    joined [] le all = tt
-    joined (n ∷ ns) le all = (later n le.0 all.0, joined ns le.1 all.1)
+fold-low : (n : ℕ) (ns : List ℕ) → (fold lesser n ns ≤ n) × AllByRecursion (λ m. fold lesser n ns ≤ m) ns
+fold-low n [] = (omega arith, tt)
+fold-low n (m ∷ ns) =
+    let rest = fold-low (lesser n m) ns in let both = lesser-both n m in
+    (omega (arith, rest.0, both.0), (omega (arith, rest.0, both.1), rest.1))
 
--- what a notice gives by its way
-given_by : (P : DueUser → Type 0) (w : Way) (ready : ℕ) (u : UserId) (ds : List DueUser) → (same_way w Mail ≡ true → P (record { due = ready + 120; user = u })) → AllByRecursion P ds → AllByRecursion P (cons_option (due_by w ready u) ds)
-given_by P Mail ready u ds h all = (h refl, all)
-given_by P Push ready u ds h all = all
+fold-one : (P : ℕ → Type 0) (n : ℕ) (ns : List ℕ) → P n → AllByRecursion P ns → P (fold lesser n ns)
+fold-one P n [] h all = h
+fold-one P n (m ∷ ns) h all = fold-one P (lesser n m) ns (elim (nat_lt m n) as (λ t. P (if t then m else n)) [ true ↦ all.0 | false ↦ h ]) all.1
 
-taken_by : (P : DueUser → Type 0) (w : Way) (ready : ℕ) (u : UserId) (ds : List DueUser) → AllByRecursion P (cons_option (due_by w ready u) ds) → (same_way w Mail ≡ true → P (record { due = ready + 120; user = u })) × AllByRecursion P ds
-taken_by P Mail ready u ds all = (λ _. all.0, all.1)
-taken_by P Push ready u ds all = (λ h. absurd (cc), all)
+-- a user's due moment among notices
+abbrev user_due : List Waiting → UserId → Option DueUser
+user_due ws u = option_map (λ (m : ℕ). let d : DueUser = record { due = m + 120; user = u } in d) (reduce lesser (filter_map (ready_mail u) ws))
 
 -- the due moments of the notices that wait
-abbrev candidates : List Notice → List DueUser
-candidates ns = filter_map due_of (map notice_kept ns)
+abbrev candidates : List Waiting → List DueUser
+candidates ws = filter_map due_of ws
 
--- each user's due moment is one of them
-found_first : (P : DueUser → Type 0) (u : UserId) (ns : List Notice) → AllByRecursion P (candidates ns) → (o : Option Notice) → find (is_mail_of u) ns ≡ o → (ds : List DueUser) → AllByRecursion P ds → AllByRecursion P (cons_option (option_map (λ (n : Notice). let d : DueUser = record { due = n.owing.at + 120; user = u } in d) o) ds)
-found_first P u ns all None e ds rest = rest
-found_first P u ns all (Some n) e ds rest = (found ns all n e, rest)
+-- what a notice gives: its own due moment, where it is a mail and ready
+given_by : (P : DueUser → Type 0) (way : Way) (g : Standing) (u : UserId) (ds : List DueUser) → ((at : ℕ) → rank way ≡ 0 → since g ≡ Some at → P (record { due = at + 120; user = u })) → AllByRecursion P ds → AllByRecursion P (cons_option (due_by way g u) ds)
+given_by P Mail Flight u ds h all = all
+given_by P Mail Held u ds h all = all
+given_by P Mail (Ready at) u ds h all = (h at refl refl, all)
+given_by P Push g u ds h all = all
+
+taken_by : (P : DueUser → Type 0) (way : Way) (g : Standing) (u : UserId) (ds : List DueUser) → AllByRecursion P (cons_option (due_by way g u) ds) → ((at : ℕ) → rank way ≡ 0 → since g ≡ Some at → P (record { due = at + 120; user = u })) × AllByRecursion P ds
+taken_by P Mail Flight u ds all = (λ at m e. absurd (cc), all)
+taken_by P Mail Held u ds all = (λ at m e. absurd (cc), all)
+taken_by P Mail (Ready since) u ds all = (λ at m e. let same : since ≡ at = cc in subst (λ (n : ℕ). P (record { due = n + 120; user = u })) same all.0, all.1)
+taken_by P Push g u ds all = (λ at m e. absurd (omega arith), all)
+
+-- a stamp that a notice gives for a user
+stamp_from : (u : UserId) (w : Waiting) (at : ℕ) → ready_mail u w ≡ Some at → (w.user ≡ u) × (rank w.way ≡ 0) × (since w.standing ≡ Some at)
+stamp_from u w at e = by (w.user.0 == u.0) (rank w.way == 0) refl refl e
   where
-    found : (ns : List Notice) → AllByRecursion P (candidates ns) → (n : Notice) → find (is_mail_of u) ns ≡ Some n → P (record { due = n.owing.at + 120; user = u })
-    found [] all n e = absurd (cc)
-    found (x ∷ xs) all n e =
-        let taken = taken_by P x.way x.owing.at x.user (candidates xs) all in
-        by (is_mail_of u x) refl e taken.0 (λ k. found xs taken.1 n k)
-      where
-        some_same : {a b : Notice} → Some a ≡ Some b → a ≡ b
-        some_same e = cc
+    by : (a b : Bool) → (w.user.0 == u.0) ≡ a → (rank w.way == 0) ≡ b → (if a && b then since w.standing else None) ≡ Some at → (w.user ≡ u) × (rank w.way ≡ 0) × (since w.standing ≡ Some at)
+    by true true p q h = (same_user w.user u (eqb-true w.user.0 u.0 p), eqb-true (rank w.way) 0 q, h)
+    by true false p q h = absurd (cc)
+    by false b p q h = absurd (cc)
 
-        both_true : (a b : Bool) → (a && b) ≡ true → (a ≡ true) × (b ≡ true)
-        both_true true b h = (refl, h)
-        both_true false b h = absurd (cc)
+-- what holds of each candidate holds of each stamp of a user
+stamps_hold : (P : DueUser → Type 0) (u : UserId) (ws : List Waiting) → AllByRecursion P (candidates ws) → AllByRecursion (λ at. P (record { due = at + 120; user = u })) (filter_map (ready_mail u) ws)
+stamps_hold P u [] all = tt
+stamps_hold P u (w ∷ ws) all =
+    let taken = taken_by P w.way w.standing w.user (candidates ws) all in
+    by (ready_mail u w) (λ at e. let is = stamp_from u w at e in subst (λ (v : UserId). P (record { due = at + 120; user = v })) is.0 (taken.0 at is.1 is.2)) (stamps_hold P u ws taken.1)
+  where
+    by : (o : Option ℕ) → ((at : ℕ) → o ≡ Some at → P (record { due = at + 120; user = u })) → AllByRecursion (λ at. P (record { due = at + 120; user = u })) (filter_map (ready_mail u) ws) → AllByRecursion (λ at. P (record { due = at + 120; user = u })) (cons_option o (filter_map (ready_mail u) ws))
+    by None f rest = rest
+    by (Some at) f rest = (f at refl, rest)
 
-        by : (b : Bool) → is_mail_of u x ≡ b → cond b (Some x) (find (is_mail_of u) xs) ≡ Some n → (same_way x.way Mail ≡ true → P (record { due = x.owing.at + 120; user = x.user })) → (find (is_mail_of u) xs ≡ Some n → P (record { due = n.owing.at + 120; user = u })) → P (record { due = n.owing.at + 120; user = u })
-        by true m e here rest =
-            let is_it : x ≡ n = some_same e in
-            let parts = both_true (x.user.0 == u.0) (same_way x.way Mail) m in
-            subst (λ (y : Notice). P (record { due = y.owing.at + 120; user = u })) is_it
-            (subst (λ (v : UserId). P (record { due = x.owing.at + 120; user = v })) (same_user x.user u (eqb-true x.user.0 u.0 parts.0)) (here parts.1))
-        by false m e here rest = rest e
+-- and of the user's due moment
+dues_hold : (P : DueUser → Type 0) (ws : List Waiting) (us : List UserId) → AllByRecursion P (candidates ws) → AllByRecursion P (filter_map (user_due ws) us)
+dues_hold P ws [] all = tt
+dues_hold P ws (u ∷ us) all = by (filter_map (ready_mail u) ws) (stamps_hold P u ws all) (dues_hold P ws us all)
+  where
+    by : (ns : List ℕ) → AllByRecursion (λ at. P (record { due = at + 120; user = u })) ns → AllByRecursion P (filter_map (user_due ws) us)
+        → AllByRecursion P (cons_option (option_map (λ (m : ℕ). let d : DueUser = record { due = m + 120; user = u } in d) (reduce lesser ns)) (filter_map (user_due ws) us))
+    by [] hold rest = rest
+    by (n ∷ ns) hold rest = (fold-one (λ at. P (record { due = at + 120; user = u })) n ns hold.0 hold.1, rest)
 
--- the due moment of the first notice of a user
-abbrev first_of_user : List Notice → UserId → Option DueUser
-first_of_user ns u = option_map (λ (n : Notice). let d : DueUser = record { due = n.owing.at + 120; user = u } in d) (find (is_mail_of u) ns)
+-- a user's due moment is at most that of each ready mail of the user
+abbrev HasSooner : List Waiting → Waiting → Type 0
+HasSooner ws w = (at : ℕ) → rank w.way ≡ 0 → since w.standing ≡ Some at → (m : ℕ) × (reduce lesser (filter_map (ready_mail w.user) ws) ≡ Some m) × (m ≤ at)
 
-firsts_are : (P : DueUser → Type 0) (ns : List Notice) (us : List UserId) → AllByRecursion P (candidates ns) → AllByRecursion P (filter_map (first_of_user ns) us)
-firsts_are P ns [] all = tt
-firsts_are P ns (u ∷ us) all = found_first P u ns all (find (is_mail_of u) ns) refl (filter_map (first_of_user ns) us) (firsts_are P ns us all)
+least_stamp : (ns : List ℕ) (at : ℕ) → list_has at ns → (m : ℕ) × (reduce lesser ns ≡ Some m) × (m ≤ at)
+least_stamp [] at has = absurd has
+least_stamp (n ∷ ns) at has =
+    let low = fold-low n ns in
+    (fold lesser n ns, refl, ⊎_elim (λ e. omega (arith, low.0, e)) (λ later. among ns low.1 later) has)
+  where
+    among : (ms : List ℕ) → AllByRecursion (λ m. fold lesser n ns ≤ m) ms → list_has at ms → fold lesser n ns ≤ at
+    among [] all has = absurd has
+    among (m ∷ ms) all has = ⊎_elim (λ e. omega (arith, all.0, e)) (λ later. among ms all.1 later) has
+
+-- the stamp of a notice is among those of its user
+stamp_among : (w : Waiting) (at : ℕ) → rank w.way ≡ 0 → since w.standing ≡ Some at → ready_mail w.user w ≡ Some at
+stamp_among w at mail e = ap (λ b. if b then since w.standing else None) (ap (λ b. b && (rank w.way == 0)) (eq-eqb w.user.0 w.user.0 refl) ∙ eq-eqb (rank w.way) 0 mail) ∙ e
+
+has_stamp : (ws all : List Waiting) → ((u : UserId) (at : ℕ) → list_has at (filter_map (ready_mail u) ws) → list_has at (filter_map (ready_mail u) all)) → AllByRecursion (HasSooner all) ws
+has_stamp [] all within = tt
+has_stamp (w ∷ ws) all within = (
+  λ at mail e. least_stamp (filter_map (ready_mail w.user) all) at (within w.user at (here (ready_mail w.user w) at (stamp_among w at mail e) (filter_map (ready_mail w.user) ws))),
+  has_stamp ws all (λ u at has. within u at (later (ready_mail u w) at (filter_map (ready_mail u) ws) has)),
+)
+  where
+    here : (o : Option ℕ) (at : ℕ) → o ≡ Some at → (ns : List ℕ) → list_has at (cons_option o ns)
+    here None at e ns = absurd (cc)
+    here (Some n) at e ns = inl cc
+
+    later : (o : Option ℕ) (at : ℕ) (ns : List ℕ) → list_has at ns → list_has at (cons_option o ns)
+    later None at ns has = has
+    later (Some n) at ns has = inr has
 
 -- what is before each user's due moment is before each of them
-all_later : (r : DueUser) (ns all : List Notice) (n : ℕ) → AllByRecursion (HasFirst all) ns → AllByRecursion (λ m. IsWithin n m.user) ns → ((u : UserId) (d : DueUser) → IsWithin n u → first_of_user all u ≡ Some d → Before r d) → AllByRecursion (Before r) (candidates ns)
-all_later r [] all n firsts there before = tt
-all_later r (m ∷ ns) all n firsts there before =
-    given_by (Before r) m.way m.owing.at m.user (candidates ns)
-    (λ mail.
-    let first = firsts.0 mail in
-    let d : DueUser = record { due = first.0.owing.at + 120; user = m.user } in
-    before-then r d (record { due = m.owing.at + 120; user = m.user })
-    (before m.user d there.0 (ap (option_map (λ (k : Notice). let e : DueUser = record { due = k.owing.at + 120; user = m.user } in e)) first.1))
-    (not_later first.0.owing.at m.owing.at m.user first.2))
-    (all_later r ns all n firsts.1 there.1 before)
+all_later : (r : DueUser) (ws all : List Waiting) (n : ℕ) → AllByRecursion (HasSooner all) ws → AllByRecursion (λ w. IsWithin n w.user) ws → ((u : UserId) (d : DueUser) → IsWithin n u → user_due all u ≡ Some d → Before r d) → AllByRecursion (Before r) (candidates ws)
+all_later r [] all n sooners there before = tt
+all_later r (w ∷ ws) all n sooners there before =
+    given_by (Before r) w.way w.standing w.user (candidates ws)
+    (λ at mail e.
+    let first = sooners.0 at mail e in
+    let d : DueUser = record { due = first.0 + 120; user = w.user } in
+    before-then r d (record { due = at + 120; user = w.user })
+    (before w.user d there.0 (ap (option_map (λ (m : ℕ). let e : DueUser = record { due = m + 120; user = w.user } in e)) first.1))
+    (not_later first.0 at w.user first.2))
+    (all_later r ws all n sooners.1 there.1 before)
   where
     not_later : (a b : ℕ) (u : UserId) → a ≤ b → Before (record { due = a + 120; user = u }) (record { due = b + 120; user = u })
     not_later a b u le =
         ⊎_elim (λ lt. inl (omega arith)) (λ ge. inr (omega arith, omega arith)) (cases_lt a b)
 
-among_users : (r : DueUser) (ns : List Notice) (start len : ℕ) → AllByRecursion (Before r) (filter_map (first_of_user ns) (map (λ n. let u : UserId = record { 0 = n } in u) (range_with_len start len))) → (k : ℕ) (d : DueUser) → start ≤ k → k < start + len → first_of_user ns (record { 0 = k }) ≡ Some d → Before r d
-among_users r ns start zero all k d low high e = absurd (omega arith)
-among_users r ns start (suc len) all k d low high e =
-    let here = here_or_later (first_of_user ns (record { 0 = start })) (filter_map (first_of_user ns) (map (λ n. let u : UserId = record { 0 = n } in u) (range_with_len (start + 1) len))) all in
+among_users : (r : DueUser) (ws : List Waiting) (start len : ℕ) → AllByRecursion (Before r) (filter_map (user_due ws) (map (λ n. let u : UserId = record { 0 = n } in u) (range_with_len start len))) → (k : ℕ) (d : DueUser) → start ≤ k → k < start + len → user_due ws (record { 0 = k }) ≡ Some d → Before r d
+among_users r ws start zero all k d low high e = absurd (omega arith)
+among_users r ws start (suc len) all k d low high e =
+    let here = here_or_later (user_due ws (record { 0 = start })) (filter_map (user_due ws) (map (λ n. let u : UserId = record { 0 = n } in u) (range_with_len (start + 1) len))) all in
     ⊎_elim
-    (λ lt. among_users r ns (start + 1) len here.1 k d (omega arith) (omega arith) e)
-    (λ ge. let same : start ≡ k = omega arith in here.0 d (ap (λ n. first_of_user ns (record { 0 = n })) same ∙ e))
+    (λ lt. among_users r ws (start + 1) len here.1 k d (omega arith) (omega arith) e)
+    (λ ge. let same : start ≡ k = omega arith in here.0 d (ap (λ n. user_due ws (record { 0 = n })) same ∙ e))
     (cases_lt start k)
   where
     here_or_later : (o : Option DueUser) (ds : List DueUser) → AllByRecursion (Before r) (cons_option o ds) → ((d : DueUser) → o ≡ Some d → Before r d) × AllByRecursion (Before r) ds
@@ -385,45 +396,42 @@ among_users r ns start (suc len) all k d low high e =
         some_same : {a b : DueUser} → Some a ≡ Some b → a ≡ b
         some_same e = cc
 
-from_first : (ns : List Notice) (low first many : ℕ) → low ≤ first → AllByRecursion (λ d. low ≤ d.user.0) (filter_map (first_of_user ns) (map (λ n. let u : UserId = record { 0 = n } in u) (range_with_len first many)))
-from_first ns low first zero le = tt
-from_first ns low first (suc many) le = with_one (find (is_mail_of (record { 0 = first })) ns) (filter_map (first_of_user ns) (map (λ n. let u : UserId = record { 0 = n } in u) (range_with_len (first + 1) many))) (from_first ns low (first + 1) many (omega arith))
+from_first : (ws : List Waiting) (low first many : ℕ) → low ≤ first → AllByRecursion (λ d. low ≤ d.user.0) (filter_map (user_due ws) (map (λ n. let u : UserId = record { 0 = n } in u) (range_with_len first many)))
+from_first ws low first zero le = tt
+from_first ws low first (suc many) le = with_one (reduce lesser (filter_map (ready_mail (record { 0 = first })) ws)) (filter_map (user_due ws) (map (λ n. let u : UserId = record { 0 = n } in u) (range_with_len (first + 1) many))) (from_first ws low (first + 1) many (omega arith))
   where
-    with_one : (o : Option Notice) (ds : List DueUser) → AllByRecursion (λ d. low ≤ d.user.0) ds → AllByRecursion (λ d. low ≤ d.user.0) (cons_option (option_map (λ (n : Notice). let d : DueUser = record { due = n.owing.at + 120; user = record { 0 = first } } in d) o) ds)
+    with_one : (o : Option ℕ) (ds : List DueUser) → AllByRecursion (λ d. low ≤ d.user.0) ds → AllByRecursion (λ d. low ≤ d.user.0) (cons_option (option_map (λ (m : ℕ). let d : DueUser = record { due = m + 120; user = record { 0 = first } } in d) o) ds)
     with_one None ds all = all
     with_one (Some n) ds all = (le, all)
 
 -- users with a due moment ascend
-firsts-ascend : (ns : List Notice) (start len : ℕ) → Ascends (λ d. d.user.0) (filter_map (first_of_user ns) (map (λ n. let u : UserId = record { 0 = n } in u) (range_with_len start len)))
-firsts-ascend ns start zero = tt
-firsts-ascend ns start (suc len) =
-    with_next (find (is_mail_of (record { 0 = start })) ns) (filter_map (first_of_user ns) (map (λ n. let u : UserId = record { 0 = n } in u) (range_with_len (start + 1) len))) (from_first ns start (start + 1) len (omega arith)) (firsts-ascend ns (start + 1) len)
+dues-ascend : (ws : List Waiting) (start len : ℕ) → Ascends (λ d. d.user.0) (filter_map (user_due ws) (map (λ n. let u : UserId = record { 0 = n } in u) (range_with_len start len)))
+dues-ascend ws start zero = tt
+dues-ascend ws start (suc len) =
+    with_next (reduce lesser (filter_map (ready_mail (record { 0 = start })) ws)) (filter_map (user_due ws) (map (λ n. let u : UserId = record { 0 = n } in u) (range_with_len (start + 1) len))) (from_first ws start (start + 1) len (omega arith)) (dues-ascend ws (start + 1) len)
   where
-    with_next : (o : Option Notice) (ds : List DueUser) → AllByRecursion (λ d. start ≤ d.user.0) ds → Ascends (λ d. d.user.0) ds → Ascends (λ d. d.user.0) (cons_option (option_map (λ (n : Notice). let d : DueUser = record { due = n.owing.at + 120; user = record { 0 = start } } in d) o) ds)
+    with_next : (o : Option ℕ) (ds : List DueUser) → AllByRecursion (λ d. start ≤ d.user.0) ds → Ascends (λ d. d.user.0) ds → Ascends (λ d. d.user.0) (cons_option (option_map (λ (m : ℕ). let d : DueUser = record { due = m + 120; user = record { 0 = start } } in d) o) ds)
     with_next None ds low up = up
     with_next (Some n) ds low up = (low, up)
 
-due_users : (j : List Stamped) (us : List UserId) → filter_map (first_of_user (waiting j)) us ≡ filter_map (due_user j) us
-due_users j [] = refl
-due_users j (u ∷ us) =
-    ap (λ o. cons_option o (filter_map (first_of_user (waiting j)) us)) (one u)
-    ∙ ap (cons_option (due_user j u)) (due_users j us)
+due_users : (t : Tables) (j : List Stamped) → Holds t j → AreStamped j → (us : List UserId) → filter_map (user_due t.waiting.items) us ≡ filter_map (due_user j) us
+due_users t j holds stamped [] = refl
+due_users t j holds stamped (u ∷ us) =
+    ap (λ o. cons_option o (filter_map (user_due t.waiting.items) us)) (twice (reduce lesser (filter_map (ready_mail u) t.waiting.items)) ∙ ap (option_map (λ (m : ℕ). let d : DueUser = record { due = m; user = u } in d)) (due-there t j holds stamped u))
+    ∙ ap (cons_option (due_user j u)) (due_users t j holds stamped us)
   where
-    twice : (u : UserId) (o : Option Notice) → option_map (λ (n : Notice). let d : DueUser = record { due = n.owing.at + 120; user = u } in d) o ≡ option_map (λ (m : ℕ). let d : DueUser = record { due = m; user = u } in d) (option_map (λ (n : Notice). n.owing.at + 120) o)
-    twice u None = refl
-    twice u (Some n) = refl
-
-    one : (u : UserId) → first_of_user (waiting j) u ≡ due_user j u
-    one u = twice u (find (is_mail_of u) (waiting j)) ∙ ap (option_map (λ (m : ℕ). let d : DueUser = record { due = m; user = u } in d)) (ap (λ p. option_map (λ (n : Notice). n.owing.at + p) (find (is_mail_of u) (waiting j))) (sym (settings-period j u)) ∙ sym (due-waiting j u))
+    twice : (o : Option ℕ) → option_map (λ (m : ℕ). let d : DueUser = record { due = m + 120; user = u } in d) o ≡ option_map (λ (m : ℕ). let d : DueUser = record { due = m; user = u } in d) (option_map (λ (m : ℕ). m + 120) o)
+    twice None = refl
+    twice (Some n) = refl
 
 -- the least due moment of the notices that wait is that of the first who is due
-pub soonest-first_due : (t : Tables) (j : List Stamped) → Holds t (lawful j) → soonest t.waiting.items ≡ first_due (lawful j)
+pub soonest-first_due : (t : Tables) (j : List Stamped) → Holds t j → AreStamped j → soonest t.waiting.items ≡ first_due j
 unfolding first_due
-soonest-first_due t j holds =
-    let p = lawful j in let w = lawful-waits j in let many = length (people p) in
-    ap soonest holds.waiting
-    ∙ (same_least (candidates (waiting p)) (filter_map (first_of_user (waiting p)) (users p))
-    (λ P all. firsts_are P (waiting p) (users p) all)
-    (λ r all. all_later r (waiting p) (waiting p) many (first_mails (waiting p) w.ascends) w.there (λ u d it e. among_users r (waiting p) 1 many all u.0 d it.0 (omega (arith, it.1)) e))
-    (firsts-ascend (waiting p) 1 many)
-    ∙ ap (reduce sooner) (due_users p (users p)))
+soonest-first_due t j holds stamped =
+    let ws = t.waiting.items in let many = length (people j) in
+    let there = subst (λ (vs : List Waiting). AllByRecursion (λ w. IsWithin many w.user) vs) (sym holds.waiting) (kept-within j) in
+    same_least (candidates ws) (filter_map (user_due ws) (users j))
+    (λ P all. dues_hold P ws (users j) all)
+    (λ r all. all_later r ws ws many (has_stamp ws ws (λ u at has. has)) there (λ u d it e. among_users r ws 1 many all u.0 d it.0 (omega (arith, it.1)) e))
+    (dues-ascend ws 1 many)
+    ∙ ap (reduce sooner) (due_users t j holds stamped (users j))

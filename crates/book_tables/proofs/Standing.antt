@@ -1,9 +1,9 @@
 -- What look-ups in tables that stand for a journal give.
-use Rattle.std.proofs.Common.{◌≡◌, ℕ, zero, suc, ◌+◌, Bool, true, false, ◌&&◌, ◌||◌, cond, List, [], ◌∷◌, length, map, refl, sym, ap, ◌∙◌}
-use Rattle.std.specs.Prelude.{Option, Some, None, option_map, is_some, unwrap_or, filter, find, slice_get, count_by}
+use Rattle.std.proofs.Common.{◌≡◌, ℕ, zero, suc, ◌+◌, Bool, ◌&&◌, ◌||◌, cond, List, [], ◌∷◌, length, refl, sym, ap, ◌∙◌}
+use Rattle.std.specs.Prelude.{Option, Some, None, option_map, is_some, unwrap_or, filter, slice_get, count_by}
 use Rattle.std.specs.Str.{str_eq_ignore_ascii_case}
 use Rattle.std.specs.Option.{option_map_or}
-use Rattle.std.specs.List.{list_all, list_any, filter_map, cons_option}
+use Rattle.std.specs.List.{list_all, list_any, filter_map}
 use Rattle.std.proofs.lemmas.List.{length-map}
 use Rattle.chat_model.specs.declared.event.Stamped.{Stamped}
 use Rattle.chat_model.specs.declared.ids.UserId.{UserId}
@@ -12,21 +12,27 @@ use Rattle.chat_model.specs.declared.ids.GroupId.{GroupId}
 use Rattle.chat_model.specs.declared.mentions.UserName.{UserName}
 use Rattle.chat_model.specs.declared.mentions.GroupName.{GroupName}
 use Rattle.notice_ledger.specs.Past.Values.{numbered, Person, people, named_from, user_names, user_name, users, is_user, messages, deal_count, named_groups_from, groups, group_names, group_name, is_group, is_member, member_count, channels, subscribed, subscriber_count}
-use Rattle.notice_ledger.specs.Past.Owed.{Notice, waiting}
-use Rattle.notice_ledger.specs.Past.Outbox.{outbox}
+use Rattle.notice_ledger.specs.Past.Owed.{waiting}
 use Rattle.notice_ledger.proofs.SettingLemmas.{settings-period}
 use Rattle.notice_ledger.specs.Past.Due.{due, batch_rows}
 use Rattle.notice_ledger.specs.Past.Refusals.{is_taken}
 use Rattle.chat_model.specs.declared.counts.Counts.{Counts}
 use Rattle.notice_ledger.specs.Past.Audit.{counts_of, in_64_bits}
 use Rattle.notice_ledger.proofs.Sent.{deal_count-messages}
-use Rattle.notice_ledger.proofs.Batches.{is_mail_of, due-waiting, batch_rows-waiting}
+use Rattle.notice_ledger.specs.Past.Audit.{same_account}
+use Rattle.notice_ledger.specs.Past.Owed.{account_of}
+use Rattle.notice_ledger.proofs.Stamps.{AreStamped, ready_stamp, due-least}
+use Rattle.chat_model.specs.declared.row.Stage.{Stage}
+use Rattle.chat_model.specs.declared.row.Stage.TheVariants as stage
+use Rattle.std.specs.List.{reduce}
 use Rattle.notice_ledger.proofs.Sums.{sum_by_same}
 use Rattle.notice_ledger.proofs.Audited.{counts_of-waiting}
-use Rattle.book_tables.specs.declared.tables.Waiting.{Waiting}
 use Rattle.book_tables.specs.declared.tables.Tables.{Tables}
 use Rattle.book_tables.specs.UserSets.{has_in, size_in}
-use Rattle.book_tables.specs.Tables.{Holds, message_kept, notice_kept, is_mail_to}
+use Rattle.book_tables.specs.Tables.{Holds, message_kept}
+use Rattle.book_tables.specs.Notices.{is_at_stage, is_ready_mail_to}
+use Rattle.book_tables.specs.Soonest.{ready_mail, lesser}
+use Rattle.book_tables.proofs.Kept.{account_at, mails-kept, stages-kept, stamps-kept}
 use Rattle.book_tables.proofs.SetSizes.{size_in-counted}
 
 -- ---- lists
@@ -35,10 +41,6 @@ is_some-map : {A B : Type 0} (f : A → B) (o : Option A) → is_some (option_ma
 is_some-map f None = refl
 is_some-map f (Some x) = refl
 
-pub map-map : {A B C : Type 0} (f : B → C) (g : A → B) (o : Option A) → option_map f (option_map g o) ≡ option_map (λ x. f (g x)) o
-map-map f g None = refl
-map-map f g (Some x) = refl
-
 or-map : {A B C : Type 0} (f : B → C) (g : A → B) (o : Option A) (d : C) → option_map_or f (option_map g o) d ≡ option_map_or (λ x. f (g x)) o d
 or-map f g None d = refl
 or-map f g (Some x) d = refl
@@ -46,26 +48,6 @@ or-map f g (Some x) d = refl
 unwrap-map : {A B : Type 0} (f : A → B) (o : Option A) (d : B) → unwrap_or (option_map f o) d ≡ option_map_or f o d
 unwrap-map f None d = refl
 unwrap-map f (Some x) d = refl
-
-pub find-map : {A B : Type 0} (p : B → Bool) (f : A → B) (xs : List A) → find p (map f xs) ≡ option_map f (find (λ x. p (f x)) xs)
-find-map p f [] = refl
-find-map p f (x ∷ xs) =
-    elim (p (f x)) as (λ b. cond b (Some (f x)) (find p (map f xs)) ≡ option_map f (cond b (Some x) (find (λ x. p (f x)) xs))) [
-      | true ↦ refl
-      | false ↦ find-map p f xs
-    ]
-
-pub filter-map : {A B : Type 0} (p : B → Bool) (f : A → B) (xs : List A) → filter p (map f xs) ≡ map f (filter (λ x. p (f x)) xs)
-filter-map p f [] = refl
-filter-map p f (x ∷ xs) =
-    elim (p (f x)) as (λ b. cond b (f x ∷ filter p (map f xs)) (filter p (map f xs)) ≡ map f (cond b (x ∷ filter (λ x. p (f x)) xs) (filter (λ x. p (f x)) xs))) [
-      | true ↦ ap (λ ys. f x ∷ ys) (filter-map p f xs)
-      | false ↦ filter-map p f xs
-    ]
-
-pub filter_map-map : {A B C : Type 0} (h : B → Option C) (f : A → B) (xs : List A) → filter_map h (map f xs) ≡ filter_map (λ x. h (f x)) xs
-filter_map-map h f [] = refl
-filter_map-map h f (x ∷ xs) = ap (cons_option (h (f x))) (filter_map-map h f xs)
 
 -- ---- users
 
@@ -96,18 +78,18 @@ taken_from n (other ∷ names) name = ap (λ b. str_eq_ignore_ascii_case name ot
 count_same : (p q : UserId → Bool) → ((u : UserId) → p u ≡ q u) → (us : List UserId) → count_by p us ≡ count_by q us
 count_same p q same us = sum_by_same (λ u. cond (p u) 1 0) (λ u. cond (q u) 1 0) (λ u. ap (λ b. cond b 1 0) (same u)) us
 
--- the counts where so many notices wait, the outbox has so many entries, each of one handed notice, and so many were
--- switched off
-abbrev pub counted : ℕ → ℕ → ℕ → Counts
-counted waiting entries off = record {
-  flight = 0;
-  held = 0;
-  ready = in_64_bits waiting;
+-- the counts where so many notices wait at each stage, the outbox has so many entries, each of one handed notice, and so
+-- many were switched off and cleared
+abbrev pub counted : ℕ → ℕ → ℕ → ℕ → ℕ → ℕ → Counts
+counted flight held waits entries off live = record {
+  flight = in_64_bits flight;
+  held = in_64_bits held;
+  ready = in_64_bits waits;
   handed = in_64_bits entries;
   read = 0;
   deleted = 0;
   off = off;
-  live = 0;
+  live = live;
   entries = in_64_bits entries;
   waiting = 0;
   written = 0;
@@ -164,18 +146,19 @@ module _ (t : Tables) (past : List Stamped) (holds : Holds t past) where
   some-member [] u = refl
   some-member (g ∷ gs) u = ap (λ b. b || list_any (λ (h : GroupId). has_in t.members.items h.0 u) gs) (holds.members g u) ∙ ap (λ b. is_member past g u || b) (some-member gs u)
 
-  pub due-there : (u : UserId) → option_map (λ (w : Waiting). w.ready + 120) (find (is_mail_to u) t.waiting.items) ≡ due past u
-  due-there u =
-      ap (λ ws. option_map (λ (w : Waiting). w.ready + 120) (find (is_mail_to u) ws)) holds.waiting
-      ∙ (ap (option_map (λ (w : Waiting). w.ready + 120)) (find-map (is_mail_to u) notice_kept (waiting past)) ∙ (map-map (λ (w : Waiting). w.ready + 120) notice_kept (find (is_mail_of u) (waiting past))
-      ∙ (ap (λ p. option_map (λ (n : Notice). n.owing.at + p) (find (is_mail_of u) (waiting past))) (sym (settings-period past u)) ∙ sym (due-waiting past u))))
+  pub due-there : AreStamped past → (u : UserId) → option_map (λ at. at + 120) (reduce lesser (filter_map (ready_mail u) t.waiting.items)) ≡ due past u
+  due-there stamped u =
+      ap (λ ws. option_map (λ at. at + 120) (reduce lesser (filter_map (ready_mail u) ws))) holds.waiting
+      ∙ (ap (λ ns. option_map (λ at. at + 120) (reduce lesser ns)) (stamps-kept u past)
+      ∙ (ap (λ p. option_map (λ at. at + p) (reduce lesser (filter_map (ready_stamp past) (batch_rows past u)))) (sym (settings-period past u)) ∙ sym (due-least past u stamped)))
 
-  pub counts-there : counted (length t.waiting.items) (length t.outbox.items) t.off ≡ counts_of past
+  -- how many notices wait at a stage
+  stage-there : (g : Stage) → length (filter (is_at_stage g) t.waiting.items) ≡ count_by (λ n. same_account (account_of past n) (account_at g)) (waiting past)
+  stage-there g = ap (λ ws. length (filter (is_at_stage g) ws)) holds.waiting ∙ stages-kept g past
+
+  pub counts-there : counted (length (filter (is_at_stage stage.Flight) t.waiting.items)) (length (filter (is_at_stage stage.Held) t.waiting.items)) (length (filter (is_at_stage stage.Ready) t.waiting.items)) (length t.outbox.items) t.off t.live ≡ counts_of past
   counts-there =
-      ap (λ ws. counted (length ws) (length t.outbox.items) t.off) holds.waiting
-      ∙ (ap (λ k. counted k (length t.outbox.items) t.off) (length-map (waiting past) notice_kept)
-      ∙ (ap (λ es. counted (length (waiting past)) (length es) t.off) holds.outbox
-      ∙ (ap (counted (length (waiting past)) (length (outbox past))) holds.off ∙ sym (counts_of-waiting past))))
+      (λ i. counted (stage-there stage.Flight i) (stage-there stage.Held i) (stage-there stage.Ready i) (length (holds.outbox i)) (holds.off i) (holds.live i)) ∙ sym (counts_of-waiting past)
 
   -- ---- how many there are
 
@@ -199,9 +182,6 @@ module _ (t : Tables) (past : List Stamped) (holds : Holds t past) where
   pub messages_dealt : length t.messages.items ≡ deal_count past
   messages_dealt = messages_long ∙ sym (deal_count-messages past)
 
-  -- how many mail notices of a user wait
-  pub mails-there : (u : UserId) → length (filter (is_mail_to u) t.waiting.items) ≡ length (batch_rows past u)
-  mails-there u =
-      ap (λ ws. length (filter (is_mail_to u) ws)) holds.waiting
-      ∙ (ap length (filter-map (is_mail_to u) notice_kept (waiting past))
-      ∙ (length-map (filter (is_mail_of u) (waiting past)) notice_kept ∙ ap length (sym (batch_rows-waiting past u))))
+  -- how many mail notices of a user are ready
+  pub mails-there : (u : UserId) → length (filter (is_ready_mail_to u) t.waiting.items) ≡ length (batch_rows past u)
+  mails-there u = ap (λ ws. length (filter (is_ready_mail_to u) ws)) holds.waiting ∙ mails-kept u past

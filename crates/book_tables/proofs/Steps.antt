@@ -5,6 +5,9 @@ use Rattle.std.specs.Option.{option_map_or}
 use Rattle.std.specs.List.{reduce, filter_map, flat_map, cons_option}
 use Rattle.std.proofs.lemmas.List.{append-nil, length-map, map-append, take_more}
 use Rattle.std.proofs.lemmas.List.Sums.{fold-append}
+use Rattle.chat_model.specs.declared.row.Row.{Row}
+use Rattle.chat_model.specs.declared.row.RowChange.{RowChange}
+use Rattle.chat_model.specs.Rows.{changed_all}
 use Rattle.std.proofs.lemmas.List.Elements.{filter-append, filter_map-append}
 
 -- one more element to reduce
@@ -64,3 +67,7 @@ reduce_filter-left f p xs x fails =
 pub if_ok_then : {T E : Type 0} (P Q : T → Type 0) → ((x : T) → P x → Q x) → (r : Result T E) → IfOk r P → IfOk r Q
 if_ok_then P Q f (Ok x) h = f x h
 if_ok_then P Q f (Err e) h = tt
+
+-- changes that are others make of the rows what these make
+pub as_made : {cs ds : List RowChange} {after : List Row} (before : List Row) → cs ≡ ds → changed_all ds before ≡ after → changed_all cs before ≡ after
+as_made before same make = ap (λ xs. changed_all xs before) same ∙ make

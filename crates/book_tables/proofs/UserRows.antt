@@ -8,7 +8,7 @@ use Rattle.std.proofs.lemmas.Bool.{ne_eqb}
 use Rattle.std.proofs.lemmas.Bool.Decides.{eqb_tells}
 use Rattle.chat_model.specs.declared.event.Stamped.{Stamped}
 use Rattle.chat_model.specs.declared.event.Event.{Event}
-use Rattle.chat_model.specs.declared.event.Event.TheVariants.{Restart, Asked, MailTurn}
+use Rattle.chat_model.specs.declared.event.Event.TheVariants.{Restart, Asked, Absorbed, MailTurn}
 use Rattle.chat_model.specs.declared.request.Request.TheVariants.{AddUser, AddGroup, Member, AddChannel, Subscribe, Set, SetChannel, SetPolicy, Mute, Send, Direct}
 use Rattle.chat_model.specs.declared.ids.UserId.{UserId}
 use Rattle.chat_model.specs.declared.row.Row.{Row}
@@ -27,7 +27,7 @@ use Rattle.notice_ledger.specs.Past.Rows.{user_rows_from}
 use Rattle.notice_ledger.proofs.Appended.{people-append}
 use Rattle.notice_ledger.proofs.RowKeys.{equal_from}
 use Rattle.notice_ledger.proofs.SettingLemmas.{settings-append}
-use Rattle.book_tables.specs.Changes.{new_user_rows}
+use Rattle.book_tables.proofs.NewRows.{new_user_rows}
 
 user_number : RowKey → ℕ
 user_number (key.User u) = u.0
@@ -176,4 +176,5 @@ users-after u j s (Asked (SetPolicy user channel topic policy)) is = left j s u 
 users-after u j s (Asked (Mute user other on)) is = left j s u (ap person_of is) (ap (setting_change u) is)
 users-after u j s (Asked (Send sender channel topic text)) is = left j s u (ap person_of is) (ap (setting_change u) is)
 users-after u j s (Asked (Direct sender to text)) is = left j s u (ap person_of is) (ap (setting_change u) is)
+users-after u j s (Absorbed outcome) is = left j s u (ap person_of is) (ap (setting_change u) is)
 users-after u j s (MailTurn user) is = left j s u (ap person_of is) (ap (setting_change u) is)

@@ -1,7 +1,8 @@
 -- What an effect leaves in the tables.
-use Rattle.std.specs.Prelude.{◌≡◌, ℕ, ◌+◌, ◌-◌, ◌^◌, Bool, not, List, [], ◌∷◌, ◌++◌, filter, map, min}
+use Rattle.std.specs.Prelude.{◌≡◌, ℕ, ◌+◌, ◌-◌, ◌^◌, Bool, not, ◌&&◌, List, [], ◌∷◌, ◌++◌, length, filter, map, min, if◌then◌else◌}
 use Rattle.chat_model.specs.declared.entry.Entry.{Entry}
 use Rattle.chat_model.specs.declared.deal.Deal.{Deal}
+use Rattle.chat_model.specs.declared.ids.DealNo.{DealNo}
 use Rattle.chat_model.specs.declared.ids.UserId.{UserId}
 use Rattle.chat_model.specs.declared.mentions.UserName.{UserName}
 use Rattle.chat_model.specs.declared.mentions.GroupName.{GroupName}
@@ -11,7 +12,7 @@ use Rattle.book_tables.specs.declared.tables.Tables.{Tables}
 use Rattle.book_tables.specs.declared.prepared.Effect.{Effect}
 use Rattle.book_tables.specs.declared.prepared.Effect.TheVariants as effect
 use Rattle.book_tables.specs.UserSets.{users_in, users_after, changed_numbered}
-use Rattle.book_tables.specs.Tables.{is_mail_to}
+use Rattle.book_tables.specs.Notices.{is_ready_mail_to, is_undecided, is_named, of_deal, readied, readied_if, dealt_to, IsInOrder}
 use Rattle.book_tables.specs.Preferences.{Preferred, preferred, default_preferred, preferred_after}
 
 -- the number of starts after an effect
@@ -62,11 +63,24 @@ abbrev pub messages_after : Effect → List Message → List Message
 messages_after (effect.Message message waiting deal) messages = messages ++ message ∷ []
 messages_after _ messages = messages
 
--- the notices that wait after an effect
-abbrev pub waiting_after : Effect → List Waiting → List Waiting
-waiting_after (effect.Message message new deal) waiting = waiting ++ new.items
-waiting_after (effect.Mailed user entries off) waiting = filter (λ w. not (is_mail_to user w)) waiting
-waiting_after _ waiting = waiting
+-- a user's undecided notices of these deals
+abbrev pub is_cleared : UserId → List DealNo → Waiting → Bool
+is_cleared user deals w = is_named user deals w && is_undecided w
+
+-- the notices that wait after an effect at a stamp
+abbrev pub waiting_after : ℕ → Effect → List Waiting → List Waiting
+waiting_after at effect.Start waiting = map (readied at) waiting
+waiting_after at (effect.Message message new deal) waiting = waiting ++ new.items
+waiting_after at (effect.Dealt deal idle live) waiting = map (λ w. if of_deal deal w then dealt_to at (users_in idle) (users_in live) w else w) waiting
+waiting_after at (effect.Cleared user deals) waiting = filter (λ w. not (is_cleared user deals w)) waiting
+waiting_after at (effect.Missed user deals) waiting = map (λ w. readied_if (is_named user deals w) at w) waiting
+waiting_after at (effect.Mailed user entries off) waiting = filter (λ w. not (is_ready_mail_to user w)) waiting
+waiting_after at _ waiting = waiting
+
+-- how many notices a live queue cleared after an effect
+abbrev pub live_after : Effect → List Waiting → ℕ → ℕ
+live_after (effect.Cleared user deals) waiting before = min (before + length (filter (is_cleared user deals) waiting)) (2 ^ 64 - 1)
+live_after _ waiting before = before
 
 -- the deals after an effect
 abbrev pub deals_after : Effect → List Deal → List Deal
@@ -83,8 +97,8 @@ abbrev pub off_after : Effect → ℕ → ℕ
 off_after (effect.Mailed user entries off) before = min (before + off) (2 ^ 64 - 1)
 off_after _ before = before
 
--- the tables after an effect, the last stamp aside
-pub record IsApplied (old new : Tables) (e : Effect) : Type 0 where
+-- the tables after an effect at a stamp, the last stamp aside; the notices stood in their order before
+pub record IsApplied (old new : Tables) (at : ℕ) (e : Effect) : Type 0 where
   pub starts : new.starts ≡ starts_after e old.starts
   pub names : new.names.items ≡ names_after e old.names.items
   pub bots : new.bots.items ≡ bots_after e old.bots.items
@@ -94,10 +108,17 @@ pub record IsApplied (old new : Tables) (e : Effect) : Type 0 where
   pub channels : new.channels.items ≡ channels_after e old.channels.items
   pub subscribers : map users_in new.subscribers.items ≡ subscribers_after e (map users_in old.subscribers.items)
   pub messages : new.messages.items ≡ messages_after e old.messages.items
-  pub waiting : new.waiting.items ≡ waiting_after e old.waiting.items
+  pub waiting : IsInOrder old.waiting.items → new.waiting.items ≡ waiting_after at e old.waiting.items
   pub deals : new.deals.items ≡ deals_after e old.deals.items
   pub outbox : new.outbox.items ≡ outbox_after e old.outbox.items
   pub off : new.off ≡ off_after e old.off
+  pub live : IsInOrder old.waiting.items → new.live ≡ live_after e old.waiting.items old.live
+
+-- the tables after a user's undecided notices of these deals were taken out and counted
+pub record IsCleared (old new : Tables) (user : UserId) (deals : List DealNo) : Type 0 where
+  pub rest : new ≡ record old { waiting = new.waiting; live = new.live }
+  pub waiting : IsInOrder old.waiting.items → new.waiting.items ≡ filter (λ w. not (is_cleared user deals w)) old.waiting.items
+  pub live : IsInOrder old.waiting.items → new.live ≡ min (old.live + length (filter (is_cleared user deals) old.waiting.items)) (2 ^ 64 - 1)
 
 -- the tables hold the same
 pub record HoldTheSame (old new : Tables) : Type 0 where
@@ -115,3 +136,4 @@ pub record HoldTheSame (old new : Tables) : Type 0 where
   pub deals : new.deals.items ≡ old.deals.items
   pub outbox : new.outbox.items ≡ old.outbox.items
   pub off : new.off ≡ old.off
+  pub live : new.live ≡ old.live

@@ -1,12 +1,12 @@
 pub mod UserSets
 pub mod TopicKeys
 pub mod Preferences
+pub mod Notices
 pub mod Tables
 pub mod Gathered
 pub mod Rules
 pub mod Soonest
 pub mod Applied
 pub mod Rooms
-pub mod Changes
 pub mod Prepared
 pub mod Answers

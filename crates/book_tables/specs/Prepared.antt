@@ -1,8 +1,8 @@
 -- What is prepared for an event: the changes of the rows, and the effect on the tables.
-use Rattle.std.specs.Prelude.{◌≡◌, ◌+◌, ℕ, true, List, length, map}
+use Rattle.std.specs.Prelude.{◌≡◌, ◌+◌, ℕ, Bool, true, List, [], ◌∷◌, ◌++◌, length, map, filter}
 use Rattle.chat_model.specs.declared.event.Stamped.{Stamped}
 use Rattle.chat_model.specs.declared.event.Event.{Event}
-use Rattle.chat_model.specs.declared.event.Event.TheVariants.{Restart, Asked, MailTurn}
+use Rattle.chat_model.specs.declared.event.Event.TheVariants.{Restart, Asked, Absorbed, MailTurn}
 use Rattle.chat_model.specs.declared.request.Request.TheVariants.{AddUser, AddGroup, Member, AddChannel, Subscribe, Set, SetChannel, SetPolicy, Mute, Send, Direct}
 use Rattle.chat_model.specs.declared.ids.UserId.{UserId}
 use Rattle.chat_model.specs.declared.mentions.GroupName.{GroupName}
@@ -11,14 +11,20 @@ use Rattle.chat_model.specs.declared.row.Row.TheVariants as row
 use Rattle.chat_model.specs.declared.row.RowKey.{RowKey}
 use Rattle.chat_model.specs.declared.row.RowKey.TheVariants as key
 use Rattle.chat_model.specs.declared.row.RowChange.{RowChange}
-use Rattle.chat_model.specs.declared.row.Stage.TheVariants.{Ready}
+use Rattle.chat_model.specs.declared.row.RowChange.TheVariants.{Put, Remove}
+use Rattle.chat_model.specs.declared.deal.UserVerdict.{UserVerdict}
+use Rattle.chat_model.specs.declared.deal.Outcome.TheVariants.{Dealt, Cleared, Missed}
+use Rattle.chat_model.specs.declared.ids.DealNo.{DealNo}
+use Rattle.chat_model.specs.Outcomes.{gives_idle, gives_live}
+use Rattle.chat_model.specs.Rows.{changed_all}
 use Rattle.chat_model.specs.declared.entry.Entry.{Entry}
 use Rattle.chat_model.specs.declared.deal.Deal.{Deal}
 use Rattle.notice_ledger.specs.Past.Journal.{occurrence}
-use Rattle.notice_ledger.specs.Past.Values.{people, groups}
+use Rattle.notice_ledger.specs.Past.Values.{people, groups, is_one_of}
 use Rattle.notice_ledger.specs.Past.Owed.{owed_by}
 use Rattle.notice_ledger.specs.Past.Deals.{deal_of}
 use Rattle.notice_ledger.specs.Past.Outbox.{mail_entries}
+use Rattle.notice_ledger.specs.Past.Rows.{rows}
 use Rattle.notice_ledger.specs.Lawful.{lawful, is_lawful_after}
 use Rattle.book_tables.specs.declared.tables.Message.{Message}
 use Rattle.book_tables.specs.declared.tables.Waiting.{Waiting}
@@ -30,16 +36,24 @@ use Rattle.book_tables.specs.UserSets.{users_in}
 use Rattle.notice_ledger.specs.declared.destination.Destination.{Destination}
 use Rattle.notice_ledger.specs.declared.destination.Destination.TheVariants as destination
 use Rattle.book_tables.specs.declared.preferences.Preference.TheVariants as preference
-use Rattle.book_tables.specs.Tables.{StandsFor, notice_kept, send_of, switched_at}
-use Rattle.book_tables.specs.Changes.{changes}
+use Rattle.book_tables.specs.Tables.{StandsFor, in_flight, send_of, switched_at}
+use Rattle.book_tables.specs.Notices.{stage_of}
 
 -- the row of a notice that waits
 abbrev pub notice_row : Waiting → Row
-notice_row w = row.Pending w.user w.message w.way w.trigger w.deal Ready
+notice_row w = row.Pending w.user w.message w.way w.trigger w.deal (stage_of w)
 
 -- the key of a notice's row
 abbrev pub key_of_notice : Waiting → RowKey
 key_of_notice w = key.Pending w.user w.message w.way
+
+-- the rows of the notices that pass a test, as they become
+abbrev pub puts_where : (Waiting → Bool) → (Waiting → Waiting) → List Waiting → List RowChange
+puts_where test become ws = map (λ w. Put (notice_row (become w))) (filter test ws)
+
+-- the rows of the notices that pass a test go
+abbrev pub removes_where : (Waiting → Bool) → List Waiting → List RowChange
+removes_where test ws = map (λ w. Remove (key_of_notice w)) (filter test ws)
 
 -- the effect adds this group with these members
 abbrev pub IsGroup : Effect → GroupName → List UserId → Type 0
@@ -51,6 +65,12 @@ abbrev pub IsMessage : Effect → Message → List Waiting → Deal → Type 0
 IsMessage (effect.Message message waiting deal) m ws d = (message ≡ m) × (waiting.items ≡ ws) × (deal ≡ d)
 IsMessage _ m ws d = ⊥
 
+-- the effect deals this deal with these verdicts
+abbrev pub IsDealt : Effect → DealNo → List UserVerdict → Type 0
+IsDealt (effect.Dealt deal idle live) k verdicts =
+    (deal ≡ k) × ((u : UserId) → is_one_of (users_in idle) u ≡ gives_idle verdicts u) × ((u : UserId) → is_one_of (users_in live) u ≡ gives_live verdicts u)
+IsDealt _ k verdicts = ⊥
+
 -- the effect hands these entries to the user, and switches so many notices off
 abbrev pub IsMailed : Effect → UserId → List Entry → ℕ → Type 0
 IsMailed (effect.Mailed user entries off) u es n = (user ≡ u) × (entries.items ≡ es) × (off ≡ n)
@@ -60,7 +80,7 @@ IsMailed _ u es n = ⊥
 abbrev pub IsSendOf : List Stamped → ℕ → UserId → Destination → List ℕ → Effect → Type 0
 IsSendOf past at sender to text e =
     let m : Message = record { sender = sender; to = to; text = text } in
-    let o = occurrence past (send_of at m) in IsMessage e m (map notice_kept (owed_by o)) (deal_of o)
+    let o = occurrence past (send_of at m) in IsMessage e m (map in_flight (owed_by o)) (deal_of o)
 
 -- the effect is that of an event at a stamp, behind these
 abbrev pub IsEffectOf : List Stamped → ℕ → Event → Effect → Type 0
@@ -76,12 +96,15 @@ IsEffectOf past at (Asked (SetPolicy user channel topic policy)) e = e ≡ effec
 IsEffectOf past at (Asked (Mute user other on)) e = e ≡ effect.Preference user (preference.Mute other on)
 IsEffectOf past at (Asked (Send sender channel topic text)) e = IsSendOf past at sender (destination.Channel channel topic) text e
 IsEffectOf past at (Asked (Direct sender to text)) e = IsSendOf past at sender (destination.Direct to) text e
+IsEffectOf past at (Absorbed (Dealt deal verdicts)) e = IsDealt e deal verdicts
+IsEffectOf past at (Absorbed (Cleared user deals queue)) e = e ≡ effect.Cleared user deals
+IsEffectOf past at (Absorbed (Missed user deals)) e = e ≡ effect.Missed user deals
 IsEffectOf past at (MailTurn user) e = IsMailed e user (mail_entries past at user) (switched_at past user)
 
--- it was prepared for this event behind these, which all count
+-- it was prepared for this event behind these, which all count: its changes make of the rows of these those with the event
 pub record Follows (past : List Stamped) (s : Stamped) (p : Prepared) : Type 0 where
   pub at : p.at ≡ s.at
-  pub changes : p.changes.items ≡ changes past s
+  pub changes : changed_all p.changes.items (rows past) ≡ rows (past ++ s ∷ [])
   pub effect : IsEffectOf past s.at s.event p.effect
 
 -- it was prepared for this event after this journal

@@ -20,6 +20,9 @@ HasRoom t (effect.Subscription channel user on) = on ≡ true → IfSome (number
 HasRoom t (effect.Message message waiting deal) =
     (vec_len t.messages < vec_capacity t.messages) × (vec_len t.waiting + vec_len waiting ≤ vec_capacity t.waiting)
     × (vec_len t.deals < vec_capacity t.deals)
+HasRoom t (effect.Dealt deal idle live) = Unit {0}
+HasRoom t (effect.Cleared user deals) = Unit {0}
+HasRoom t (effect.Missed user deals) = Unit {0}
 HasRoom t (effect.Mailed user entries off) = vec_len t.outbox + vec_len entries ≤ vec_capacity t.outbox
 
 -- the tables have room for what was prepared

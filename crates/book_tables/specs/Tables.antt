@@ -1,5 +1,5 @@
 -- When the tables stand for a journal.
-use Rattle.std.specs.Prelude.{◌≡◌, ℕ, Bool, ◌&&◌, ◌==◌, List, [], ◌∷◌, length, map, if◌then◌else◌}
+use Rattle.std.specs.Prelude.{◌≡◌, ℕ, Bool, true, false, List, [], ◌∷◌, Option, Some, None, option_map, length, map, if◌then◌else◌}
 use Rattle.std.specs.List.{filter_map}
 use Rattle.chat_model.specs.declared.event.Stamped.{Stamped}
 use Rattle.chat_model.specs.declared.event.Event.TheVariants.{Asked}
@@ -12,10 +12,10 @@ use Rattle.chat_model.specs.declared.row.Cause.TheVariants.{SwitchedOff}
 use Rattle.chat_model.specs.declared.trigger.Way.TheVariants as ways
 use Rattle.notice_ledger.specs.Past.Journal.{last_stamp, occurrence}
 use Rattle.notice_ledger.specs.Past.Values.{SentMessage, people, user_names, groups, group_names, is_member, channels, messages, subscribed}
-use Rattle.notice_ledger.specs.declared.accounts.Account.TheVariants.{Cancelled}
+use Rattle.notice_ledger.specs.declared.accounts.Account.TheVariants.{Cancelled, LiveQueue}
 use Rattle.notice_ledger.specs.declared.destination.Destination.{Destination}
 use Rattle.notice_ledger.specs.declared.destination.Destination.TheVariants as destination
-use Rattle.notice_ledger.specs.Past.Owed.{Notice, notice_of, waiting, same_way, switch_on}
+use Rattle.notice_ledger.specs.Past.Owed.{Notice, notice_of, pushes_online, ready, was_dealt, waiting, switch_on}
 use Rattle.notice_ledger.specs.Past.Deals.{deals}
 pub use Rattle.notice_ledger.specs.Past.Runs.{start_count}
 use Rattle.notice_ledger.specs.Past.Due.{DueUser, batch_rows}
@@ -23,6 +23,8 @@ use Rattle.notice_ledger.specs.Past.Outbox.{outbox}
 use Rattle.notice_ledger.specs.Past.Audit.{in_64_bits, owed_with}
 use Rattle.notice_ledger.specs.Lawful.{lawful}
 use Rattle.book_tables.specs.declared.tables.Message.{Message}
+use Rattle.book_tables.specs.declared.tables.Standing.{Standing}
+use Rattle.book_tables.specs.declared.tables.Standing.TheVariants.{Flight, Held, Ready}
 use Rattle.book_tables.specs.declared.tables.Waiting.{Waiting}
 use Rattle.book_tables.specs.declared.tables.DueUser.{DueUser as FoundDue}
 use Rattle.book_tables.specs.declared.tables.Tables.{Tables}
@@ -33,9 +35,23 @@ use Rattle.book_tables.specs.Preferences.{preferred_in, preferred_by}
 abbrev pub message_kept : SentMessage → Message
 message_kept m = record { sender = m.sender; to = m.to; text = m.text }
 
--- a notice as the tables keep it
-abbrev pub notice_kept : Notice → Waiting
-notice_kept n = record { user = n.user; message = n.number; way = n.way; trigger = n.trigger; deal = n.deal; via = n.via; ready = n.owing.at }
+-- how far a notice that waits has come, by whether its deal was absorbed and by the stamp of its ready event
+abbrev pub standing_by : Bool → Option ℕ → Standing
+standing_by dealt (Some at) = Ready at
+standing_by true None = Held
+standing_by false None = Flight
+
+-- a notice with how far it has come
+abbrev pub notice_at : Standing → Notice → Waiting
+notice_at standing n = record { user = n.user; message = n.number; way = n.way; trigger = n.trigger; deal = n.deal; via = n.via; online = pushes_online n; standing = standing }
+
+-- a notice that waits, as the tables keep it
+abbrev pub notice_kept : List Stamped → Notice → Waiting
+notice_kept j n = notice_at (standing_by (was_dealt j n) (option_map (λ o. o.at) (ready j n))) n
+
+-- a notice that was just owed
+abbrev pub in_flight : Notice → Waiting
+in_flight n = notice_at Flight n
 
 -- the request that sends a message
 abbrev pub request_to : UserId → Destination → List ℕ → Request
@@ -52,7 +68,7 @@ sent_after past m = record { past = past; sender = m.sender; to = m.to; text = m
 
 -- what the send of a message behind these owes a user, mail before push
 abbrev pub owed_user : List Stamped → ℕ → Message → UserId → List Waiting
-owed_user past at m u = map notice_kept (filter_map (notice_of (occurrence past (send_of at m)) (sent_after past m) u) (ways.Mail ∷ ways.Push ∷ []))
+owed_user past at m u = map in_flight (filter_map (notice_of (occurrence past (send_of at m)) (sent_after past m) u) (ways.Mail ∷ ways.Push ∷ []))
 
 -- how many notices a mail turn of the user behind these switches off
 abbrev pub switched_at : List Stamped → UserId → ℕ
@@ -73,18 +89,15 @@ pub record Holds (t : Tables) (past : List Stamped) : Type 0 where
   pub subscriber_sets : AreUserSets (length (channels past)) (length (people past)) t.subscribers.items
   pub channels : t.channels.items ≡ channels past
   pub messages : t.messages.items ≡ map message_kept (messages past)
-  pub waiting : t.waiting.items ≡ map notice_kept (waiting past)
+  pub waiting : t.waiting.items ≡ map (notice_kept past) (waiting past)
   pub deals : t.deals.items ≡ deals past
   pub outbox : t.outbox.items ≡ outbox past
   pub off : t.off ≡ in_64_bits (owed_with past (Cancelled SwitchedOff))
+  pub live : t.live ≡ in_64_bits (owed_with past LiveQueue)
 
 -- the tables stand for a list of events: they hold what its lawful events leave
 abbrev pub StandsFor : Tables → List Stamped → Type 0
 StandsFor t j = Holds t (lawful j)
-
--- a mail notice of the user
-abbrev pub is_mail_to : UserId → Waiting → Bool
-is_mail_to u w = w.user.0 == u.0 && same_way w.way ways.Mail
 
 -- what a search for the least due moment found
 abbrev pub found_due : FoundDue → DueUser

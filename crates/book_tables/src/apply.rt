@@ -2,7 +2,7 @@
 ghost use Rattle.std.specs.Prelude.{◌≡◌, true, List, ◌∷◌, [], ◌++◌, OnOk};
 ghost use Rattle.chat_model.specs.declared.event.Stamped.{Stamped};
 ghost use Rattle.notice_ledger.specs.Lawful.{is_lawful_after};
-ghost use Rattle.book_tables.specs.Applied.{IsApplied, HoldTheSame};
+ghost use Rattle.book_tables.specs.Applied.{IsApplied, IsCleared, HoldTheSame};
 ghost use Rattle.book_tables.specs.Rooms.{HasRoom, HasRoomFor};
 ghost use Rattle.book_tables.specs.Prepared.{IsPreparedFor};
 
@@ -11,7 +11,8 @@ use crate::prepared::{Effect, Prepared};
 use crate::sets::{change_set, reserve_in_set};
 use crate::tables::Tables;
 use crate::user_set::UserSet;
-use chat_model::OutOfMemory;
+use crate::waiting::{clear_named, deal_out, ready_all, ready_named};
+use chat_model::{DealNo, Moment, OutOfMemory, UserId};
 
 impl Tables {
     ghost use Rattle.book_tables.specs.Tables.{StandsFor};
@@ -23,6 +24,9 @@ impl Tables {
     {
         match effect {
             Effect::Start => Ok(()),
+            Effect::Dealt { .. } => Ok(()),
+            Effect::Cleared { .. } => Ok(()),
+            Effect::Missed { .. } => Ok(()),
             Effect::User { .. } => {
                 self.names.reserve(1)?;
                 self.bots.reserve(1)?;
@@ -61,14 +65,37 @@ impl Tables {
         }
     }
 
-    /// Makes the effect.
-    fn make(&mut self, effect: Effect)
+    /// Takes a user's undecided notices of these deals out, and counts them.
+    fn clear(&mut self, user: UserId, deals: &[DealNo])
+        ensures { IsCleared self.old self.new user deals.now }
+    {
+        let before = self.waiting.len();
+        clear_named(&mut self.waiting, user, deals);
+        let cleared = before.saturating_sub(self.waiting.len());
+        self.live = self.live.saturating_add(cleared as u64);
+    }
+
+    /// Makes the effect at a stamp.
+    fn make(&mut self, at: Moment, effect: Effect)
         requires { HasRoom self.old effect }
-        ensures { IsApplied self.old self.new effect }
+        ensures { IsApplied self.old self.new at effect }
     {
         match effect {
             Effect::Start => {
                 self.starts = self.starts.saturating_add(1);
+                ready_all(&mut self.waiting, at);
+                return;
+            }
+            Effect::Dealt { deal, idle, live } => {
+                deal_out(&mut self.waiting, at, deal, &idle, &live);
+                return;
+            }
+            Effect::Cleared { user, deals } => {
+                self.clear(user, deals.as_slice());
+                return;
+            }
+            Effect::Missed { user, deals } => {
+                ready_named(&mut self.waiting, at, user, deals.as_slice());
                 return;
             }
             Effect::User { user, bot } => {
@@ -116,7 +143,7 @@ impl Tables {
                 mut entries,
                 off,
             } => {
-                self.waiting.retain(|notice| !notice.is_mail_to(user));
+                self.waiting.retain(|notice| !notice.is_ready_mail_to(user));
                 self.outbox.append(&mut entries).unwrap();
                 self.off = self.off.saturating_add(off);
                 return;
@@ -138,7 +165,7 @@ impl Tables {
         ensures { (j : List Stamped) (event : Stamped) → StandsFor self.old j → is_lawful_after j event ≡ true → IsPreparedFor j event prepared → StandsFor self.new (j ++ event ∷ []) }
     {
         let Prepared { at, effect, .. } = prepared;
-        self.make(effect);
+        self.make(at, effect);
         self.last = at;
     }
 }

@@ -1,10 +1,21 @@
 //! The counts.
-ghost use Rattle.std.specs.Prelude.{◌≡◌, List};
+ghost use Rattle.std.specs.Prelude.{◌≡◌, List, length, filter};
 ghost use Rattle.chat_model.specs.declared.event.Stamped.{Stamped};
 ghost use Rattle.notice_ledger.specs.Audit.{counts_of};
+ghost use Rattle.book_tables.specs.Notices.{is_at_stage};
 
-use crate::tables::Tables;
-use chat_model::Counts;
+use crate::tables::{Tables, Waiting};
+use chat_model::{Counts, Stage};
+
+/// How many notices are at a stage.
+fn count_at(waiting: &[Waiting], stage: Stage) -> usize
+    ensures { result ≡ length (filter (is_at_stage stage) waiting.now) }
+{
+    waiting
+        .iter()
+        .filter(|notice| notice.is_at_stage(stage))
+        .count()
+}
 
 impl Tables {
     ghost use Rattle.book_tables.specs.Tables.{StandsFor};
@@ -15,15 +26,15 @@ impl Tables {
     {
         let entries = self.outbox.len() as u64;
         Counts {
-            flight: 0,
-            held: 0,
-            ready: self.waiting.len() as u64,
+            flight: count_at(&self.waiting, Stage::Flight) as u64,
+            held: count_at(&self.waiting, Stage::Held) as u64,
+            ready: count_at(&self.waiting, Stage::Ready) as u64,
             // Each entry has one item.
             handed: entries,
             read: 0,
             deleted: 0,
             off: self.off,
-            live: 0,
+            live: self.live,
             entries,
             waiting: 0,
             written: 0,

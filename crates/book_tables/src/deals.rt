@@ -24,11 +24,11 @@ impl Tables {
     ghost use Rattle.notice_ledger.specs.Past.Deals.{deal_of};
     ghost use Rattle.notice_ledger.specs.Journal.{deal_count};
     ghost use Rattle.notice_ledger.specs.Deals.{deal};
-    ghost use Rattle.book_tables.specs.Tables.{Holds, StandsFor, notice_kept};
+    ghost use Rattle.book_tables.specs.Tables.{Holds, StandsFor, in_flight};
 
     /// The deal of the next message, whose send owes these notices.
     pub(crate) fn deal_of(&self, owed: &[Waiting]) -> Result<Deal, OutOfMemory>
-        ensures { IfOk result (λ made. (o : Occurrence) → Holds self.now o.past → owed.now ≡ map notice_kept (owed_by o) → made ≡ deal_of o) }
+        ensures { IfOk result (λ made. (o : Occurrence) → Holds self.now o.past → owed.now ≡ map in_flight (owed_by o) → made ≡ deal_of o) }
     {
         let users = users_of(self.alloc, owed)?;
         Ok(Deal {

@@ -1,34 +1,50 @@
 //! When mails are due.
-ghost use Rattle.std.specs.Prelude.{◌≡◌, List, find, option_map};
-ghost use Rattle.std.specs.Option.{option_copied, option_map_or};
+ghost use Rattle.std.specs.Prelude.{◌≡◌, List, option_map};
+ghost use Rattle.std.specs.Option.{option_map_or};
 ghost use Rattle.chat_model.specs.declared.event.Stamped.{Stamped};
 ghost use Rattle.notice_ledger.specs.Due.{due, first_due};
-ghost use Rattle.book_tables.specs.Tables.{is_mail_to, found_due};
-ghost use Rattle.book_tables.specs.Soonest.{due_of, sooner_of};
+ghost use Rattle.book_tables.specs.Tables.{found_due};
+ghost use Rattle.book_tables.specs.Soonest.{ready_mail, lesser, due_of, sooner_of};
 
-use crate::tables::{DueUser, Tables, Waiting};
-use chat_model::{UserId, Way};
+use crate::tables::{DueUser, Standing, Tables, Waiting};
+use chat_model::{Moment, UserId, Way};
 
 /// How many seconds a user's mails wait.
 const PERIOD: u64 = 120;
 
-/// The first mail notice of the user.
-fn first_mail(waiting: &[Waiting], user: UserId) -> Option<&Waiting>
-    ensures { option_copied result ≡ find (is_mail_to user) waiting.now }
-{
-    waiting.iter().find(|notice| notice.is_mail_to(user))
-}
-
-/// When a mail notice would be due on its own, and for whom; nothing where it is a push.
+/// When a mail notice that is ready would be due on its own, and for whom; nothing of another notice.
 fn due_of(notice: &Waiting) -> Option<DueUser>
     ensures { option_map found_due result ≡ due_of notice.now }
 {
-    match notice.way {
-        Way::Mail => Some(DueUser {
-            due: notice.ready.seconds() + PERIOD,
+    match (notice.way, notice.standing) {
+        (Way::Mail, Standing::Ready(ready)) => Some(DueUser {
+            due: ready.seconds() + PERIOD,
             user: notice.user,
         }),
-        Way::Push => None,
+        _ => None,
+    }
+}
+
+/// The stamp at which a mail notice of the user became ready.
+fn ready_mail(notice: &Waiting, user: UserId) -> Option<Moment>
+    ensures { result ≡ ready_mail user notice.now }
+{
+    if !notice.is_mail_to(user) {
+        return None;
+    }
+    match notice.standing {
+        Standing::Ready(ready) => Some(ready),
+        _ => None,
+    }
+}
+
+/// Of two stamps the lesser.
+fn lesser(first: Option<Moment>, next: Moment) -> Moment
+    ensures { result ≡ option_map_or (λ a. lesser a next) first next }
+{
+    match first {
+        Some(first) if first.seconds() <= next.seconds() => first,
+        _ => next,
     }
 }
 
@@ -52,16 +68,19 @@ impl Tables {
     pub fn due(&self, user: UserId) -> Option<u64>
         ensures { (j : List Stamped) → StandsFor self.now j → result ≡ due j user }
     {
-        match first_mail(&self.waiting, user) {
-            Some(notice) => Some(notice.ready.seconds() + PERIOD),
+        let mut first = None;
+        for notice in &self.waiting {
+            if let Some(ready) = ready_mail(notice, user) {
+                first = Some(lesser(first, ready));
+            }
+        }
+        match first {
+            Some(ready) => Some(ready.seconds() + PERIOD),
             None => None,
         }
     }
 
     /// The user with the least due moment, ties by the lower number. It takes no memory.
-    ///
-    /// The notices wait in the order in which they became ready, so a user's first is the one that is due first, and
-    /// the least of all is the least of these.
     pub fn first_due(&self) -> Option<DueUser>
         ensures { (j : List Stamped) → StandsFor self.now j → option_map found_due result ≡ first_due j }
     {

@@ -4,10 +4,10 @@ ghost use Rattle.chat_model.specs.declared.event.Stamped.{Stamped};
 ghost use Rattle.notice_ledger.specs.Past.Owed.{Notice};
 ghost use Rattle.chat_model.specs.declared.trigger.Way.{Way};
 ghost use Rattle.notice_ledger.specs.Past.Owed.{switch_on};
-ghost use Rattle.notice_ledger.specs.Past.Due.{batch_rows as batch_rows_of};
-ghost use Rattle.notice_ledger.specs.Past.Outbox.{by_message, conversation_of, mail_entry, mail_entries};
+ghost use Rattle.notice_ledger.specs.Past.Outbox.{by_message, mailed, conversation_of, mail_entry, mail_entries};
 ghost use Rattle.notice_ledger.specs.Due.{batch_rows};
-ghost use Rattle.book_tables.specs.Tables.{is_mail_to, switched_at};
+ghost use Rattle.book_tables.specs.Tables.{switched_at};
+ghost use Rattle.book_tables.specs.Notices.{is_ready_mail_to};
 
 use crate::tables::{Message, Tables, Waiting, item_at};
 use chat_model::{
@@ -16,13 +16,13 @@ use chat_model::{
 };
 use notice_ledger::Destination;
 
-/// How many mail notices of the user there are.
+/// How many mail notices of the user are ready.
 fn count_mails(waiting: &[Waiting], user: UserId) -> usize
-    ensures { result ≡ length (filter (is_mail_to user) waiting.now) }
+    ensures { result ≡ length (filter (is_ready_mail_to user) waiting.now) }
 {
     waiting
         .iter()
-        .filter(|notice| notice.is_mail_to(user))
+        .filter(|notice| notice.is_ready_mail_to(user))
         .count()
 }
 
@@ -68,7 +68,7 @@ impl Tables {
         notice: &Waiting,
         message: &Message,
     ) -> Result<Entry, OutOfMemory>
-        ensures { IfOk result (λ entry. (past : List Stamped) (n : Notice) → Holds self.now past → notice.now ≡ notice_kept n → message.now ≡ message_kept n.message → entry ≡ mail_entry past at n) }
+        ensures { IfOk result (λ entry. (past : List Stamped) (n : Notice) → Holds self.now past → notice.now ≡ notice_kept past n → message.now ≡ message_kept n.message → entry ≡ mail_entry past at n) }
     {
         let alloc = self.alloc;
         let mut items = List::new(alloc);
@@ -89,13 +89,13 @@ impl Tables {
         })
     }
 
-    /// The entries of the user's mail notices that wait, each message one of its own.
+    /// The entries of the user's mail notices that are ready, each message one of its own.
     fn waiting_entries(&self, at: Moment, user: UserId) -> Result<Vec<Entry>, OutOfMemory>
-        ensures { IfOk result (λ entries. (past : List Stamped) → Holds self.now past → entries.items ≡ map (mail_entry past at) (by_message (batch_rows_of past user))) }
+        ensures { IfOk result (λ entries. (past : List Stamped) → Holds self.now past → entries.items ≡ map (mail_entry past at) (by_message (mailed past user))) }
     {
         let mut entries = Vec::new(self.alloc);
         for notice in &self.waiting {
-            if notice.is_mail_to(user) {
+            if notice.is_ready_mail_to(user) {
                 if let Some(message) = item_at(&self.messages, notice.message.0) {
                     entries.push(self.mail_entry(at, notice, message)?)?;
                 }

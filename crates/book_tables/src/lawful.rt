@@ -29,6 +29,7 @@ impl Tables {
             && match &event.event {
                 Event::Restart => true,
                 Event::Asked(request) => self.check(request).is_none() && is_in_order(request),
+                Event::Absorbed(_) => true,
                 Event::MailTurn(user) => self.is_turn(event.at, *user),
             }
     }

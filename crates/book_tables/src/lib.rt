@@ -22,6 +22,7 @@ mod sets;
 mod tables;
 mod topic_key;
 mod user_set;
+mod waiting;
 
 pub use prepared::Prepared;
 pub use tables::{DueUser, Tables};

@@ -1,20 +1,22 @@
 //! Whom a message notifies, and by which group.
-ghost use Rattle.std.specs.Prelude.{◌≡◌, ◌++◌, true, ℕ, List, None, map, filter, option_map, option_to_list, IfOk, OnOk, if◌then◌else◌};
+ghost use Rattle.std.specs.Prelude.{◌≡◌, ◌++◌, ◌&&◌, true, ℕ, List, None, map, filter, option_map, option_to_list, IfOk, OnOk, if◌then◌else◌};
 ghost use Rattle.std.specs.Option.{option_map_or};
 ghost use Rattle.std.specs.List.{list_any, reduce};
 ghost use Rattle.chat_model.specs.declared.event.Stamped.{Stamped};
 ghost use Rattle.chat_model.specs.Triggers.{trigger_of};
 ghost use Rattle.notice_ledger.specs.InOrder.{is_ascending};
 ghost use Rattle.notice_ledger.specs.Past.Values.{is_one_of};
+ghost use Rattle.chat_model.specs.declared.trigger.Way.TheVariants as WayOf;
+ghost use Rattle.notice_ledger.specs.Past.Owed.{same_way};
 ghost use Rattle.notice_ledger.specs.Past.Triggers.{mentions_of, is_named, is_mention};
 
 use crate::facts::{Gathered, set_of};
 use crate::sets::{is_in_one, is_in_set, size_of_set};
-use crate::tables::{Message, Tables, Waiting, item_at};
+use crate::tables::{Message, Standing, Tables, Waiting, item_at};
 use crate::user_set::UserSet;
 use chat_model::{
-    ChannelId, DealNo, Facts, GroupId, List as UserList, Mentions, MessageId, Moment, OutOfMemory,
-    Text, Trigger, UserId, Way,
+    ChannelId, DealNo, Facts, GroupId, List as UserList, Mentions, MessageId, OutOfMemory, Text,
+    Trigger, UserId, Way,
 };
 use mention_scan::{resolve, scan};
 use notice_ledger::Destination;
@@ -25,6 +27,13 @@ fn is_mention(trigger: Trigger) -> bool
     ensures { result ≡ is_mention trigger }
 {
     matches!(trigger, Trigger::Mention)
+}
+
+/// Whether a notice by this way is a push to a user who wants pushes while online.
+fn pushes_online(facts: &Facts, way: Way) -> bool
+    ensures { result ≡ (same_way way WayOf.Push && facts.now.settings.push_online) }
+{
+    matches!(way, Way::Push) && facts.settings.push_online
 }
 
 /// Whether the user is among these, which ascend.
@@ -41,24 +50,14 @@ fn is_named(mentioned: &Mentions, user: UserId) -> bool
     is_among(mentioned.users.as_slice(), user)
 }
 
-/// Adds the notice, if there is one.
-fn push_some(owed: &mut Vec<Waiting>, notice: Option<Waiting>) -> Result<(), OutOfMemory>
-    ensures { OnOk result (owed.new.items ≡ owed.old.items ++ option_to_list notice) }
-{
-    if let Some(notice) = notice {
-        owed.push(notice)?;
-    }
-    Ok(())
-}
-
 impl Tables {
     ghost use Rattle.notice_ledger.specs.Past.Journal.{occurrence};
-    ghost use Rattle.notice_ledger.specs.Past.Values.{is_bot, is_member, member_count};
+    ghost use Rattle.notice_ledger.specs.Past.Values.{is_bot, is_member, member_count, settings};
     ghost use Rattle.notice_ledger.specs.Past.Triggers.{goes_to, is_mentioned, smaller, smallest_named, came_by};
     ghost use Rattle.notice_ledger.specs.Past.Triggers.{trigger as trigger_at};
     ghost use Rattle.notice_ledger.specs.Past.Owed.{notice_of, owed_by};
     ghost use Rattle.notice_ledger.specs.declared.destination.Destination.TheVariants.{Channel, Direct};
-    ghost use Rattle.book_tables.specs.Tables.{Holds, notice_kept, send_of, sent_after, owed_user};
+    ghost use Rattle.book_tables.specs.Tables.{Holds, in_flight, send_of, sent_after, owed_user};
     ghost use Rattle.book_tables.specs.Gathered.{IsGathered, owed_there};
 
     pub(crate) fn is_bot(&self, user: UserId) -> bool
@@ -155,49 +154,51 @@ impl Tables {
         }
     }
 
-    /// The notice of the next message to the user by the way, ready at this stamp, if the facts trigger one.
-    fn notice(
+    /// Adds the notice of the next message to the user by the way, if the facts trigger one.
+    fn add_notice(
         &self,
-        at: Moment,
         mentioned: &Mentions,
         facts: &Facts,
         user: UserId,
         way: Way,
-    ) -> Option<Waiting>
-        ensures { (past : List Stamped) (message : Message) → Holds self.now past → mentioned.now ≡ mentions_of past message.text → trigger_of facts.now way ≡ trigger_at past (sent_after past message) message.text user way
-            → result ≡ option_map notice_kept (notice_of (occurrence past (send_of at message)) (sent_after past message) user way) }
+        owed: &mut Vec<Waiting>,
+    ) -> Result<(), OutOfMemory>
+        ensures { (past : List Stamped) (at : ℕ) (message : Message) → Holds self.now past → mentioned.now ≡ mentions_of past message.text → trigger_of facts.now way ≡ trigger_at past (sent_after past message) message.text user way
+            → facts.now.settings ≡ settings past user
+            → OnOk result (owed.new.items ≡ owed.old.items ++ option_to_list (option_map in_flight (notice_of (occurrence past (send_of at message)) (sent_after past message) user way))) }
     {
         match trigger(facts, way) {
-            Some(trigger) => Some(Waiting {
-                user,
-                message: MessageId(self.messages.len() as u64 + 1),
-                way,
-                trigger,
-                via: self.via(mentioned, user, trigger),
-                deal: DealNo(self.messages.len() as u64),
-                ready: at,
-            }),
-            None => None,
+            Some(trigger) => {
+                owed.push(Waiting {
+                    user,
+                    message: MessageId(self.messages.len() as u64 + 1),
+                    way,
+                    trigger,
+                    via: self.via(mentioned, user, trigger),
+                    deal: DealNo(self.messages.len() as u64),
+                    online: pushes_online(facts, way),
+                    standing: Standing::Flight,
+                })?;
+                Ok(())
+            }
+            None => Ok(()),
         }
     }
 
     /// Adds the notices that the next message owes a recipient, mail before push.
     fn add_both(
         &self,
-        at: Moment,
         message: &Message,
         gathered: &Gathered,
         user: UserId,
         owed: &mut Vec<Waiting>,
     ) -> Result<(), OutOfMemory>
-        ensures { (past : List Stamped) → Holds self.now past → IsGathered past message.now gathered.now → goes_to past message.now.to user ≡ true
+        ensures { (past : List Stamped) (at : ℕ) → Holds self.now past → IsGathered past message.now gathered.now → goes_to past message.now.to user ≡ true
             → OnOk result (owed.new.items ≡ owed.old.items ++ owed_user past at message.now user) }
     {
         let facts = self.facts(message, gathered, user);
-        let mail = self.notice(at, &gathered.mentioned, &facts, user, Way::Mail);
-        let push = self.notice(at, &gathered.mentioned, &facts, user, Way::Push);
-        push_some(owed, mail)?;
-        push_some(owed, push)?;
+        self.add_notice(&gathered.mentioned, &facts, user, Way::Mail, owed)?;
+        self.add_notice(&gathered.mentioned, &facts, user, Way::Push, owed)?;
         Ok(())
     }
 
@@ -205,17 +206,16 @@ impl Tables {
     /// there is owed nothing.
     fn add_owed(
         &self,
-        at: Moment,
         message: &Message,
         gathered: &Gathered,
         user: UserId,
         owed: &mut Vec<Waiting>,
     ) -> Result<(), OutOfMemory>
-        ensures { (past : List Stamped) → Holds self.now past → IsGathered past message.now gathered.now → goes_to past message.now.to user ≡ true
+        ensures { (past : List Stamped) (at : ℕ) → Holds self.now past → IsGathered past message.now gathered.now → goes_to past message.now.to user ≡ true
             → OnOk result (owed.new.items ≡ owed.old.items ++ owed_there past at message.now user) }
     {
         if self.is_user(user) {
-            self.add_both(at, message, gathered, user, owed)
+            self.add_both(message, gathered, user, owed)
         } else {
             Ok(())
         }
@@ -224,18 +224,17 @@ impl Tables {
     /// The notices that the next message owes its addressees: by user, mail before push.
     fn owed_to(
         &self,
-        at: Moment,
         message: &Message,
         gathered: &Gathered,
         addressees: &UserSet,
     ) -> Result<Vec<Waiting>, OutOfMemory>
-        ensures { IfOk result (λ owed. (past : List Stamped) → Holds self.now past → IsGathered past message.now gathered.now
+        ensures { IfOk result (λ owed. (past : List Stamped) (at : ℕ) → Holds self.now past → IsGathered past message.now gathered.now
             → ((u : UserId) → is_one_of addressees.now.users.items u ≡ goes_to past message.now.to u)
-            → owed.items ≡ map notice_kept (owed_by (occurrence past (send_of at message.now)))) }
+            → owed.items ≡ map in_flight (owed_by (occurrence past (send_of at message.now)))) }
     {
         let mut owed = Vec::new(self.alloc);
         for user in &addressees.users {
-            self.add_owed(at, message, gathered, *user, &mut owed)?;
+            self.add_owed(message, gathered, *user, &mut owed)?;
         }
         Ok(owed)
     }
@@ -243,17 +242,16 @@ impl Tables {
     /// The notices that the next message owes the subscribers of its channel.
     fn owed_in_channel(
         &self,
-        at: Moment,
         message: &Message,
         gathered: &Gathered,
         channel: ChannelId,
     ) -> Result<Vec<Waiting>, OutOfMemory>
-        ensures { IfOk result (λ owed. (past : List Stamped) (topic : List ℕ) → Holds self.now past → IsGathered past message.now gathered.now → message.now.to ≡ Channel channel topic
-            → owed.items ≡ map notice_kept (owed_by (occurrence past (send_of at message.now)))) }
+        ensures { IfOk result (λ owed. (past : List Stamped) (at : ℕ) (topic : List ℕ) → Holds self.now past → IsGathered past message.now gathered.now → message.now.to ≡ Channel channel topic
+            → owed.items ≡ map in_flight (owed_by (occurrence past (send_of at message.now)))) }
     {
         match item_at(&self.subscribers, channel.0) {
             Some(subscribers) => {
-                let owed = self.owed_to(at, message, gathered, subscribers)?;
+                let owed = self.owed_to(message, gathered, subscribers)?;
                 Ok(owed)
             }
             None => Ok(Vec::new(self.alloc)),
@@ -263,32 +261,31 @@ impl Tables {
     /// The notices that the next message, which is direct, owes the users whom it names.
     fn owed_directly(
         &self,
-        at: Moment,
         message: &Message,
         gathered: &Gathered,
         to: &UserList<UserId>,
     ) -> Result<Vec<Waiting>, OutOfMemory>
-        ensures { IfOk result (λ owed. (past : List Stamped) → Holds self.now past → IsGathered past message.now gathered.now → message.now.to ≡ Direct to.now
-            → owed.items ≡ map notice_kept (owed_by (occurrence past (send_of at message.now)))) }
+        ensures { IfOk result (λ owed. (past : List Stamped) (at : ℕ) → Holds self.now past → IsGathered past message.now gathered.now → message.now.to ≡ Direct to.now
+            → owed.items ≡ map in_flight (owed_by (occurrence past (send_of at message.now)))) }
     {
         let users = to.copy()?;
         let named = set_of(users.into_vec());
-        let owed = self.owed_to(at, message, gathered, &named)?;
+        let owed = self.owed_to(message, gathered, &named)?;
         Ok(owed)
     }
 
     /// The notices that the next message owes. Only those to whom it goes are looked at.
-    pub(crate) fn owed(&self, at: Moment, message: &Message) -> Result<Vec<Waiting>, OutOfMemory>
-        ensures { IfOk result (λ owed. (past : List Stamped) → Holds self.now past → owed.items ≡ map notice_kept (owed_by (occurrence past (send_of at message.now)))) }
+    pub(crate) fn owed(&self, message: &Message) -> Result<Vec<Waiting>, OutOfMemory>
+        ensures { IfOk result (λ owed. (past : List Stamped) (at : ℕ) → Holds self.now past → owed.items ≡ map in_flight (owed_by (occurrence past (send_of at message.now)))) }
     {
         let gathered = self.gather(message)?;
         match &message.to {
             Destination::Channel { channel, .. } => {
-                let owed = self.owed_in_channel(at, message, &gathered, *channel)?;
+                let owed = self.owed_in_channel(message, &gathered, *channel)?;
                 Ok(owed)
             }
             Destination::Direct { to } => {
-                let named = self.owed_directly(at, message, &gathered, to)?;
+                let named = self.owed_directly(message, &gathered, to)?;
                 Ok(named)
             }
         }

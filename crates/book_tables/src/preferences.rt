@@ -16,8 +16,8 @@ use std::alloc::Global;
 use std::collections::HashMap;
 use std::hash::Hash;
 
-/// What a user set; what was never set isn't kept, and is found as the default (as 'Zulip help center: Mute or unmute a
-/// channel' and 'Follow a topic').
+/// What a user set. What was never set isn't kept, and is found as the default: a channel's settings as `Mute or unmute
+/// a channel` of Zulip's help center has them, a topic's policy as its `Follow a topic` has it.
 #[derive(Debug, Drop)]
 pub struct Preferences {
     pub settings: Settings,

@@ -3,22 +3,27 @@ ghost use Rattle.std.specs.Prelude.{◌≡◌, ◌+◌, ◌^◌, ◌<◌, ◌++�
 ghost use Rattle.chat_model.specs.declared.event.Stamped.{Stamped};
 ghost use Rattle.chat_model.specs.declared.row.Row.TheVariants.{User};
 ghost use Rattle.chat_model.specs.declared.row.RowChange.TheVariants.{Put, Remove};
+ghost use Rattle.std.specs.List.{flat_map};
 ghost use Rattle.notice_ledger.specs.Past.Values.{person};
 ghost use Rattle.chat_model.specs.Rows.{changed_all};
 ghost use Rattle.notice_ledger.specs.InOrder.{is_ascending, is_in_order};
 ghost use Rattle.notice_ledger.specs.Lawful.{is_lawful_after};
 ghost use Rattle.notice_ledger.specs.Rows.{rows};
 ghost use Rattle.notice_ledger.specs.Past.Rows.{outbox_rows_from};
-ghost use Rattle.book_tables.specs.Tables.{is_mail_to};
-ghost use Rattle.book_tables.specs.Prepared.{notice_row, key_of_notice, changes_of};
+ghost use Rattle.book_tables.specs.UserSets.{users_in};
+ghost use Rattle.book_tables.specs.Notices.{IsInOrder, is_undecided, is_undecided_at, is_undecided_of, is_ready_mail_to, readied, dealt_to, named_by};
+ghost use Rattle.chat_model.specs.Outcomes.{is_idle, is_live};
+ghost use Rattle.book_tables.specs.Prepared.{notice_row, key_of_notice, puts_where, removes_where, changes_of};
 
+use crate::facts::set_of;
 use crate::preferences::Preference;
 use crate::tables::{Message, Tables, Waiting};
 use crate::user_set::UserSet;
+use crate::waiting::{find_deal, find_undecided};
 use chat_model::{
-    ChannelId, Deal, Entry, EntryNo, Event, GroupId, GroupName, List, MessageId, Moment,
-    OutOfMemory, Policy, Request, Row, RowChange, RowKey, SettingChange, Settings, Stage, Stamped,
-    Text, UserId, UserName,
+    ChannelId, Deal, DealNo, Entry, EntryNo, Event, GroupId, GroupName, List, MessageId, Moment,
+    OutOfMemory, Outcome, Policy, QueueId, Request, Row, RowChange, RowKey, SettingChange,
+    Settings, Stamped, Text, UserId, UserName, UserVerdict, Verdict, Way,
 };
 use notice_ledger::Destination;
 use std::alloc::Global;
@@ -65,6 +70,22 @@ pub enum Effect {
         waiting: Vec<Waiting>,
         deal: Deal,
     },
+    /// A deal was dealt: the users who were found idle, and those who were found live.
+    Dealt {
+        deal: DealNo,
+        idle: UserSet,
+        live: UserSet,
+    },
+    /// A live queue of the user cleared these deals.
+    Cleared {
+        user: UserId,
+        deals: List<DealNo>,
+    },
+    /// The user missed these deals.
+    Missed {
+        user: UserId,
+        deals: List<DealNo>,
+    },
     Mailed {
         user: UserId,
         entries: Vec<Entry>,
@@ -82,6 +103,27 @@ impl Prepared {
     }
 }
 
+/// The row of a notice as it stands.
+fn row_of(notice: &Waiting) -> Row
+    ensures { result ≡ notice_row notice.now }
+{
+    Row::Pending {
+        user: notice.user,
+        message: notice.message,
+        way: notice.way,
+        trigger: notice.trigger,
+        deal: notice.deal,
+        stage: notice.stage(),
+    }
+}
+
+/// The key of a notice's row.
+fn key_of(notice: &Waiting) -> RowKey
+    ensures { result ≡ key_of_notice notice.now }
+{
+    RowKey::Pending(notice.user, notice.message, notice.way)
+}
+
 /// Adds the rows of notices that wait.
 pub(crate) fn put_notices(
     changes: &mut Vec<RowChange>,
@@ -90,36 +132,149 @@ pub(crate) fn put_notices(
     ensures { OnOk result (changes.new.items ≡ changes.old.items ++ map (λ w. Put (notice_row w)) waiting.now) }
 {
     for notice in waiting {
-        changes.push(RowChange::Put(Row::Pending {
-            user: notice.user,
-            message: notice.message,
-            way: notice.way,
-            trigger: notice.trigger,
-            deal: notice.deal,
-            stage: Stage::Ready,
-        }))?;
+        changes.push(RowChange::Put(row_of(notice)))?;
     }
     Ok(())
 }
 
-/// Takes the rows of a user's mail notices away.
+/// Adds the rows of the undecided notices, which become ready by this stamp.
+fn put_ready(
+    changes: &mut Vec<RowChange>,
+    waiting: &[Waiting],
+    at: Moment,
+) -> Result<(), OutOfMemory>
+    ensures { OnOk result (changes.new.items ≡ changes.old.items ++ puts_where is_undecided (readied at) waiting.now) }
+{
+    for notice in waiting {
+        if !notice.is_ready() {
+            changes.push(RowChange::Put(row_of(&notice.readied(at))))?;
+        }
+    }
+    Ok(())
+}
+
+/// Adds the rows of a deal's undecided notices, once the deal is dealt.
+fn put_dealt(
+    changes: &mut Vec<RowChange>,
+    waiting: &[Waiting],
+    at: Moment,
+    deal: DealNo,
+    idle: &UserSet,
+    live: &UserSet,
+) -> Result<(), OutOfMemory>
+    ensures { IsInOrder waiting.now → OnOk result (changes.new.items ≡ changes.old.items ++ puts_where (is_undecided_of deal) (dealt_to at (users_in idle.now) (users_in live.now)) waiting.now) }
+{
+    let stretch = find_deal(waiting, deal);
+    for notice in &waiting[stretch.from..stretch.to] {
+        if !notice.is_ready() {
+            changes.push(RowChange::Put(row_of(&notice.dealt(at, idle, live))))?;
+        }
+    }
+    Ok(())
+}
+
+/// Adds the row of the undecided notice of a deal to a user by a way, which becomes ready by this stamp.
+fn put_missed(
+    changes: &mut Vec<RowChange>,
+    waiting: &[Waiting],
+    at: Moment,
+    deal: DealNo,
+    user: UserId,
+    way: Way,
+) -> Result<(), OutOfMemory>
+    ensures { IsInOrder waiting.now → OnOk result (changes.new.items ≡ changes.old.items ++ puts_where (is_undecided_at deal user way) (readied at) waiting.now) }
+{
+    if let Some(place) = find_undecided(waiting, deal, user, way) {
+        changes.push(RowChange::Put(row_of(&waiting[place].readied(at))))?;
+    }
+    Ok(())
+}
+
+/// Adds the rows of a user's undecided notices of these deals, which become ready by this stamp.
+fn put_all_missed(
+    changes: &mut Vec<RowChange>,
+    waiting: &[Waiting],
+    at: Moment,
+    user: UserId,
+    deals: &[DealNo],
+) -> Result<(), OutOfMemory>
+    ensures { IsInOrder waiting.now → OnOk result (changes.new.items ≡ changes.old.items ++ flat_map (λ test. puts_where test (readied at) waiting.now) (named_by user deals.now)) }
+{
+    for deal in deals {
+        put_missed(changes, waiting, at, *deal, user, Way::Mail)?;
+        put_missed(changes, waiting, at, *deal, user, Way::Push)?;
+    }
+    Ok(())
+}
+
+/// Takes the row of the undecided notice of a deal to a user by a way away.
+fn remove_cleared(
+    changes: &mut Vec<RowChange>,
+    waiting: &[Waiting],
+    deal: DealNo,
+    user: UserId,
+    way: Way,
+) -> Result<(), OutOfMemory>
+    ensures { IsInOrder waiting.now → OnOk result (changes.new.items ≡ changes.old.items ++ removes_where (is_undecided_at deal user way) waiting.now) }
+{
+    if let Some(place) = find_undecided(waiting, deal, user, way) {
+        changes.push(RowChange::Remove(key_of(&waiting[place])))?;
+    }
+    Ok(())
+}
+
+/// Takes the rows of a user's undecided notices of these deals away.
+fn remove_all_cleared(
+    changes: &mut Vec<RowChange>,
+    waiting: &[Waiting],
+    user: UserId,
+    deals: &[DealNo],
+) -> Result<(), OutOfMemory>
+    ensures { IsInOrder waiting.now → OnOk result (changes.new.items ≡ changes.old.items ++ flat_map (λ test. removes_where test waiting.now) (named_by user deals.now)) }
+{
+    for deal in deals {
+        remove_cleared(changes, waiting, *deal, user, Way::Mail)?;
+        remove_cleared(changes, waiting, *deal, user, Way::Push)?;
+    }
+    Ok(())
+}
+
+/// Takes the rows of a user's mail notices that are ready away.
 fn remove_mails(
     changes: &mut Vec<RowChange>,
     waiting: &[Waiting],
     user: UserId,
 ) -> Result<(), OutOfMemory>
-    ensures { OnOk result (changes.new.items ≡ changes.old.items ++ map (λ w. Remove (key_of_notice w)) (filter (is_mail_to user) waiting.now)) }
+    ensures { OnOk result (changes.new.items ≡ changes.old.items ++ removes_where (is_ready_mail_to user) waiting.now) }
 {
     for notice in waiting {
-        if notice.is_mail_to(user) {
-            changes.push(RowChange::Remove(RowKey::Pending(
-                notice.user,
-                notice.message,
-                notice.way,
-            )))?;
+        if notice.is_ready_mail_to(user) {
+            changes.push(RowChange::Remove(key_of(notice)))?;
         }
     }
     Ok(())
+}
+
+/// The users who were found idle.
+fn idle_users(alloc: Global, verdicts: &[UserVerdict]) -> Result<Vec<UserId>, OutOfMemory>
+    ensures { IfOk result (λ users. users.items ≡ map (λ v. v.user) (filter (λ v. is_idle v.verdict) verdicts.now)) }
+{
+    let users = verdicts
+        .iter()
+        .filter(|given| matches!(given.verdict, Verdict::Idle))
+        .map(|given| given.user);
+    Ok(users.collect(alloc)?)
+}
+
+/// The users who were found live.
+fn live_users(alloc: Global, verdicts: &[UserVerdict]) -> Result<Vec<UserId>, OutOfMemory>
+    ensures { IfOk result (λ users. users.items ≡ map (λ v. v.user) (filter (λ v. is_live v.verdict) verdicts.now)) }
+{
+    let users = verdicts
+        .iter()
+        .filter(|given| matches!(given.verdict, Verdict::Live))
+        .map(|given| given.user);
+    Ok(users.collect(alloc)?)
 }
 
 /// Adds the rows of the outbox entries that follow so many others.
@@ -143,7 +298,8 @@ pub(crate) fn put_entries(
 }
 
 impl Tables {
-    ghost use Rattle.chat_model.specs.declared.event.Event.TheVariants.{Asked, MailTurn};
+    ghost use Rattle.chat_model.specs.declared.event.Event.TheVariants.{Restart, Asked, Absorbed, MailTurn};
+    ghost use Rattle.chat_model.specs.declared.deal.Outcome.TheVariants.{Dealt, Cleared, Missed};
     ghost use Rattle.chat_model.specs.declared.request.Request.TheVariants.{AddUser, AddGroup, Set, SetPolicy, Send, Direct};
     ghost use Rattle.book_tables.specs.Tables.{Holds, StandsFor, send_of};
     ghost use Rattle.book_tables.specs.Prepared.{Follows, IsPreparedFor, MayFollow};
@@ -252,7 +408,7 @@ impl Tables {
     fn prepare_send(&self, at: Moment, message: Message) -> Result<Prepared, OutOfMemory>
         ensures { IfOk result (λ p. (past : Items Stamped) → Holds self.now past → Follows past (send_of at message) p) }
     {
-        let waiting = self.owed(at, &message)?;
+        let waiting = self.owed(&message)?;
         let deal = self.deal_of(&waiting)?;
         let mut changes = Vec::new(self.alloc);
         changes.push(RowChange::Put(Row::Message {
@@ -322,6 +478,88 @@ impl Tables {
                 off: self.switched_off(user) as u64,
             },
         })
+    }
+
+    /// A start makes every undecided notice ready.
+    fn prepare_start(&self, at: Moment) -> Result<Prepared, OutOfMemory>
+        ensures { IfOk result (λ p. (past : Items Stamped) → Holds self.now past → Follows past (record { at = at; event = Restart }) p) }
+    {
+        let mut changes = Vec::new(self.alloc);
+        put_ready(&mut changes, &self.waiting, at)?;
+        Ok(Prepared {
+            at,
+            changes,
+            effect: Effect::Start,
+        })
+    }
+
+    fn prepare_dealt(
+        &self,
+        at: Moment,
+        deal: DealNo,
+        verdicts: &List<UserVerdict>,
+    ) -> Result<Prepared, OutOfMemory>
+        ensures { IfOk result (λ p. (past : Items Stamped) → Holds self.now past → Follows past (record { at = at; event = Absorbed (Dealt deal verdicts.now) }) p) }
+    {
+        let idle = set_of(idle_users(self.alloc, verdicts.as_slice())?);
+        let live = set_of(live_users(self.alloc, verdicts.as_slice())?);
+        let mut changes = Vec::new(self.alloc);
+        put_dealt(&mut changes, &self.waiting, at, deal, &idle, &live)?;
+        Ok(Prepared {
+            at,
+            changes,
+            effect: Effect::Dealt { deal, idle, live },
+        })
+    }
+
+    fn prepare_cleared(
+        &self,
+        at: Moment,
+        user: UserId,
+        deals: &List<DealNo>,
+        queue: QueueId,
+    ) -> Result<Prepared, OutOfMemory>
+        ensures { IfOk result (λ p. (past : Items Stamped) → Holds self.now past → Follows past (record { at = at; event = Absorbed (Cleared user deals.now queue) }) p) }
+    {
+        let mut changes = Vec::new(self.alloc);
+        remove_all_cleared(&mut changes, &self.waiting, user, deals.as_slice())?;
+        let deals = deals.copy()?;
+        Ok(Prepared {
+            at,
+            changes,
+            effect: Effect::Cleared { user, deals },
+        })
+    }
+
+    fn prepare_missed(
+        &self,
+        at: Moment,
+        user: UserId,
+        deals: &List<DealNo>,
+    ) -> Result<Prepared, OutOfMemory>
+        ensures { IfOk result (λ p. (past : Items Stamped) → Holds self.now past → Follows past (record { at = at; event = Absorbed (Missed user deals.now) }) p) }
+    {
+        let mut changes = Vec::new(self.alloc);
+        put_all_missed(&mut changes, &self.waiting, at, user, deals.as_slice())?;
+        let deals = deals.copy()?;
+        Ok(Prepared {
+            at,
+            changes,
+            effect: Effect::Missed { user, deals },
+        })
+    }
+
+    /// What an absorbed outcome changes: the notices that it names alone.
+    fn prepare_absorbed(&self, at: Moment, outcome: &Outcome) -> Result<Prepared, OutOfMemory>
+        ensures { IfOk result (λ p. (past : Items Stamped) → Holds self.now past → Follows past (record { at = at; event = Absorbed outcome.now }) p) }
+    {
+        match outcome {
+            Outcome::Dealt { deal, verdicts } => self.prepare_dealt(at, *deal, verdicts),
+            Outcome::Cleared { user, deals, queue } => {
+                self.prepare_cleared(at, *user, deals, *queue)
+            }
+            Outcome::Missed { user, deals } => self.prepare_missed(at, *user, deals),
+        }
     }
 
     /// An effect that changes no row.
@@ -414,8 +652,9 @@ impl Tables {
         ensures changes { IfOk result (λ p. (j : Items Stamped) → StandsFor self.now j → is_lawful_after j event.now ≡ true → changed_all (changes_of p) (rows j) ≡ rows (j ++ event.now ∷ [])) }
     {
         match &event.event {
-            Event::Restart => Ok(self.without_rows(event.at, Effect::Start)),
+            Event::Restart => self.prepare_start(event.at),
             Event::Asked(request) => self.prepare_asked(event.at, request),
+            Event::Absorbed(outcome) => self.prepare_absorbed(event.at, outcome),
             Event::MailTurn(user) => self.prepare_mails(event.at, *user),
         }
     }

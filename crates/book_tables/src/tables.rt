@@ -3,7 +3,6 @@ ghost use Rattle.std.specs.Prelude.{◌≡◌, ◌+◌, ℕ, List, [], length, i
 ghost use Rattle.std.specs.Option.{option_copied};
 ghost use Rattle.chat_model.specs.declared.event.Stamped.{Stamped};
 ghost use Rattle.notice_ledger.specs.Past.Values.{numbered};
-ghost use Rattle.book_tables.specs.Tables.{is_mail_to};
 
 use crate::preferences::Preferences;
 use crate::user_set::UserSet;
@@ -22,7 +21,18 @@ pub struct Message {
     pub text: Text,
 }
 
-/// An owed notice that had no turn yet. `ready` is the stamp of the event that made it ready.
+/// How far an owed notice has come.
+#[derive(Clone, Copy, Debug)]
+pub enum Standing {
+    /// Nothing was absorbed of its deal.
+    Flight,
+    /// Its deal was absorbed.
+    Held,
+    /// It is ready since the stamp of the event that made it ready.
+    Ready(Moment),
+}
+
+/// An owed notice that is still to be handed over.
 #[derive(Clone, Copy, Debug)]
 pub struct Waiting {
     pub user: UserId,
@@ -32,7 +42,9 @@ pub struct Waiting {
     /// The group by which the mention came, where the user is not mentioned by name.
     pub via: Option<GroupId>,
     pub deal: DealNo,
-    pub ready: Moment,
+    /// Whether it is a push to a user who wants pushes while online.
+    pub online: bool,
+    pub standing: Standing,
 }
 
 /// A user with a due moment, in seconds since 1970-01-01T00:00:00Z.
@@ -63,6 +75,8 @@ pub struct Tables {
     pub(crate) outbox: Vec<Entry>,
     /// How many notices were switched off at their turns, at most 2^64 - 1.
     pub(crate) off: u64,
+    /// How many notices a live queue cleared, at most 2^64 - 1.
+    pub(crate) live: u64,
 }
 
 /// The item of a number, from 1.
@@ -80,19 +94,6 @@ pub fn is_there<T>(items: &[T], number: u64) -> bool
     ensures { result ≡ is_some (numbered number items.now) }
 {
     item_at(items, number).is_some()
-}
-
-impl Waiting {
-    /// Whether it is a mail notice of the user.
-    pub fn is_mail_to(&self, user: UserId) -> bool
-        ensures { result ≡ is_mail_to user self.now }
-    {
-        self.user.0 == user.0
-            && match self.way {
-                Way::Mail => true,
-                Way::Push => false,
-            }
-    }
 }
 
 impl Tables {
@@ -128,6 +129,7 @@ impl Tables {
             deals: Vec::new(alloc),
             outbox: Vec::new(alloc),
             off: 0,
+            live: 0,
         }
     }
 

@@ -1,5 +1,5 @@
 -- `==` tells whether two values are the same.
-use Rattle.std.proofs.Common.{◌≡◌, ◌↔◌, IsTrue, ℕ, Bool, true, false, ◌&&◌, ◌==◌, List, [], ◌∷◌, refl, sym, ap, ◌∙◌, subst, arith}
+use Rattle.std.proofs.Common.{◌≡◌, ◌↔◌, IsTrue, ℕ, Bool, true, false, ◌&&◌, List, refl, sym, ap, ◌∙◌, subst, arith}
 use Rattle.std.specs.Prelude.{nat_eq}
 use Rattle.std.specs.Bool.{Decides}
 use Rattle.std.specs.Cmp.Lexicographic.{pointwise}
@@ -17,8 +17,12 @@ use Rattle.chat_model.specs.declared.settings.SettingChange.{SettingChange}
 use Rattle.chat_model.specs.declared.settings.SettingChange.TheVariants.{MailMentions, PushMentions, PushOnline, ChannelMail, ChannelPush, Wildcards, FollowedMail, FollowedPush, FollowedWildcards}
 use Rattle.chat_model.specs.declared.policy.SpecificChange.{SpecificChange}
 use Rattle.chat_model.specs.declared.policy.SpecificChange.TheVariants as specific
+use Rattle.chat_model.specs.declared.ids.DealNo.{DealNo}
+use Rattle.chat_model.specs.declared.deal.UserVerdict.{UserVerdict}
+use Rattle.chat_model.specs.declared.deal.Outcome.{Outcome}
+use Rattle.chat_model.specs.declared.deal.Outcome.TheVariants.{Dealt, Cleared, Missed}
 use Rattle.chat_model.specs.declared.event.Event.{Event}
-use Rattle.chat_model.specs.declared.event.Event.TheVariants.{Restart, Asked, MailTurn}
+use Rattle.chat_model.specs.declared.event.Event.TheVariants.{Restart, Asked, Absorbed, MailTurn}
 use Rattle.chat_model.specs.declared.event.Stamped.{Stamped}
 use Rattle.chat_model.specs.declared.entry.Item.{Item}
 use Rattle.chat_model.specs.declared.entry.Conversation.{Conversation}
@@ -38,6 +42,9 @@ use Rattle.chat_model.specs.contracts.policy.SpecificChangePartialEq.TheImpl as 
 use Rattle.chat_model.specs.contracts.mentions.UserNamePartialEq.TheImpl as user_name_eq
 use Rattle.chat_model.specs.contracts.mentions.GroupNamePartialEq.TheImpl as group_name_eq
 use Rattle.chat_model.specs.contracts.request.RequestPartialEq.TheImpl as request_eq
+use Rattle.chat_model.specs.contracts.ids.DealNoPartialEq.TheImpl as deal_no_eq
+use Rattle.chat_model.specs.contracts.deal.UserVerdictPartialEq.TheImpl as user_verdict_eq
+use Rattle.chat_model.specs.contracts.deal.OutcomePartialEq.TheImpl as outcome_eq
 use Rattle.chat_model.specs.contracts.event.EventPartialEq.TheImpl as event_eq
 use Rattle.chat_model.specs.contracts.event.StampedPartialEq.TheImpl as stamped_eq
 use Rattle.chat_model.specs.contracts.entry.ItemPartialEq.TheImpl as item_eq
@@ -127,7 +134,7 @@ settings_itself s =
     (and_from ((bool_eq.ghosts).eq s.followed_wildcards s.followed_wildcards) (from_period s s) (bool_itself s.followed_wildcards)
     (eq-eqb s.period s.period refl)))))))))
 
-settings_exact : (a b : Settings) → Decides ((settings_eq.ghosts).eq a b) (a ≡ b)
+pub settings_exact : (a b : Settings) → Decides ((settings_eq.ghosts).eq a b) (a ≡ b)
 settings_exact a b = (settings_same a b, λ h. subst (λ x. (settings_eq.ghosts).eq a x ≡ true) h (settings_itself a))
 
 pub user_name_exact : (a b : UserName) → Decides ((user_name_eq.ghosts).eq a b) (a ≡ b)
@@ -169,9 +176,28 @@ request_exact (Direct sender to text) (Direct sender' to' text') = (λ h. grind 
 request_exact (Send sender channel topic text) (Send sender' channel' topic' text') = (λ h. grind (arith, common_steps, text_exact), λ h. grind (arith, common_steps, text_exact))
 request_exact _ _ = (λ h. cc, λ h. cc)
 
+deal_no_exact : (a b : DealNo) → Decides ((deal_no_eq.ghosts).eq a b) (a ≡ b)
+deal_no_exact a b = (λ h. grind (arith, common_steps), λ h. grind (arith, common_steps))
+
+deals_exact : (a b : List DealNo) → Decides (pointwise (deal_no_eq.ghosts).eq a b) (a ≡ b)
+deals_exact a b = slice_eq-Decides deal_no_exact a b (pointwise (deal_no_eq.ghosts).eq a b) refl
+
+user_verdict_exact : (a b : UserVerdict) → Decides ((user_verdict_eq.ghosts).eq a b) (a ≡ b)
+user_verdict_exact a b = (λ h. grind (arith, common_steps), λ h. grind (arith, common_steps))
+
+verdicts_exact : (a b : List UserVerdict) → Decides (pointwise (user_verdict_eq.ghosts).eq a b) (a ≡ b)
+verdicts_exact a b = slice_eq-Decides user_verdict_exact a b (pointwise (user_verdict_eq.ghosts).eq a b) refl
+
+pub outcome_exact : (a b : Outcome) → Decides ((outcome_eq.ghosts).eq a b) (a ≡ b)
+outcome_exact (Dealt k verdicts) (Dealt k' verdicts') = (λ h. grind (arith, common_steps, verdicts_exact), λ h. grind (arith, common_steps, verdicts_exact))
+outcome_exact (Cleared u deals queue) (Cleared u' deals' queue') = (λ h. grind (arith, common_steps, deals_exact), λ h. grind (arith, common_steps, deals_exact))
+outcome_exact (Missed u deals) (Missed u' deals') = (λ h. grind (arith, common_steps, deals_exact), λ h. grind (arith, common_steps, deals_exact))
+outcome_exact _ _ = (λ h. cc, λ h. cc)
+
 pub event_exact : (a b : Event) → Decides ((event_eq.ghosts).eq a b) (a ≡ b)
 event_exact Restart Restart = (λ h. refl, λ h. refl)
 event_exact (Asked r) (Asked q) = (λ h. ap Asked ((request_exact r q).0 h), λ h. (request_exact r q).1 cc)
+event_exact (Absorbed o) (Absorbed p) = (λ h. ap Absorbed ((outcome_exact o p).0 h), λ h. (outcome_exact o p).1 cc)
 event_exact (MailTurn u) (MailTurn v) = (λ h. ap MailTurn ((user_exact u v).0 h), λ h. (user_exact u v).1 cc)
 event_exact _ _ = (λ h. cc, λ h. cc)
 

@@ -2,7 +2,7 @@
 ghost use Rattle.std.specs.Prelude.{◌≡◌, IfOk};
 
 use crate::duplicate::Duplicate;
-use crate::{DealNo, List, MessageId, OutOfMemory, UserId};
+use crate::{DealNo, List, MessageId, OutOfMemory, Same, UserId};
 use std::alloc::Global;
 
 /// A client's queue: the run of the office in which it was registered, and its place among the registrations of that
@@ -13,6 +13,12 @@ pub struct QueueId {
     pub number: u64,
 }
 
+impl Same for QueueId {
+    fn is_same(&self, other: &QueueId) -> bool {
+        self == other
+    }
+}
+
 /// Whether a user is there to see a message: `Live` with a live queue and a recent beat, else `Idle`.
 #[derive(Clone, Copy, Debug, PartialEq, Eq)]
 pub enum Verdict {
@@ -20,11 +26,23 @@ pub enum Verdict {
     Live,
 }
 
+impl Same for Verdict {
+    fn is_same(&self, other: &Verdict) -> bool {
+        self == other
+    }
+}
+
 /// The verdict for one user of a deal.
 #[derive(Clone, Copy, Debug, PartialEq, Eq)]
 pub struct UserVerdict {
     pub user: UserId,
     pub verdict: Verdict,
+}
+
+impl Same for UserVerdict {
+    fn is_same(&self, other: &UserVerdict) -> bool {
+        self == other
+    }
 }
 
 /// What a send or an edit hands to the hub: its message, and the users to whom it owes a notice.
@@ -98,5 +116,11 @@ impl Outcome {
 impl Duplicate for Outcome {
     fn duplicate(&self, alloc: Global) -> Result<Self, OutOfMemory> {
         self.copy(alloc)
+    }
+}
+
+impl Same for Outcome {
+    fn is_same(&self, other: &Outcome) -> bool {
+        self == other
     }
 }

@@ -2,7 +2,7 @@
 ghost use Rattle.std.specs.Prelude.{◌≡◌, IfOk};
 
 use crate::duplicate::Duplicate;
-use crate::{Moment, OutOfMemory, Request, Same, UserId};
+use crate::{Moment, OutOfMemory, Outcome, Request, Same, UserId};
 use std::alloc::Global;
 
 /// What happened.
@@ -12,6 +12,8 @@ pub enum Event {
     Restart,
     /// A request was granted.
     Asked(Request),
+    /// The office was told what became of deals.
+    Absorbed(Outcome),
     /// The due mails of a user were handed over.
     MailTurn(UserId),
 }
@@ -24,6 +26,7 @@ impl Event {
         match self {
             Event::Restart => Ok(Event::Restart),
             Event::Asked(request) => Ok(Event::Asked(request.copy(alloc)?)),
+            Event::Absorbed(outcome) => Ok(Event::Absorbed(outcome.copy(alloc)?)),
             Event::MailTurn(user) => Ok(Event::MailTurn(*user)),
         }
     }

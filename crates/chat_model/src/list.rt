@@ -1,7 +1,23 @@
 //! A growable list whose growth may be refused. Contracts see it as the list of its items.
-ghost use Rattle.std.specs.Prelude.{◌≡◌, ◌↔◌, [], ◌∷◌, ◌++◌, length, IsTrue, IfOk, OnOk, OnErr};
+ghost use Rattle.std.specs.Prelude.{
+  ◌≡◌,
+  ◌≢◌,
+  ◌<◌,
+  ◌≤◌,
+  ◌↔◌,
+  [],
+  ◌∷◌,
+  ◌++◌,
+  length,
+  take,
+  slice_get,
+  IsTrue,
+  IfOk,
+  OnOk,
+  OnErr,
+};
 
-use crate::OutOfMemory;
+use crate::{OutOfMemory, Same};
 use std::alloc::Global;
 use std::marker::Model;
 
@@ -97,6 +113,26 @@ impl<T: Eq> Eq for List<T> {
     ghost use Rattle.std.specs.Cmp.Lexicographic.{lists_equiv};
 
     ghost laws = { lists_equiv T.Eq.laws };
+}
+
+/// How many items the lists have in common, from the front on.
+fn common<T: Same>(xs: &[T], ys: &[T]) -> usize
+    ensures in_first { result ≤ length xs.now }
+    ensures in_second { result ≤ length ys.now }
+    ensures same { take result xs.now ≡ take result ys.now }
+    ensures differ { result < length xs.now → slice_get xs.now result ≢ slice_get ys.now result }
+{
+    let mut count = 0;
+    while count < xs.len() && count < ys.len() && xs[count].is_same(&ys[count]) {
+        count += 1;
+    }
+    count
+}
+
+impl<T: Same> Same for List<T> {
+    fn is_same(&self, other: &List<T>) -> bool {
+        self.len() == other.len() && common(self.as_slice(), other.as_slice()) == self.len()
+    }
 }
 
 impl<T> From<Vec<T>> for List<T> {

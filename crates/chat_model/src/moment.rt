@@ -1,11 +1,18 @@
 //! Moments in time.
 ghost use Rattle.std.specs.Prelude.{◌≡◌, ℕ, ◌<◌, ◌^◌, ◌↔◌, IsSome, IfSome};
 
+use crate::Same;
 use std::marker::Model;
 
 /// A number of seconds since 1970-01-01T00:00:00Z, below 2^37.
 #[derive(Clone, Copy, Debug, PartialEq, Eq, PartialOrd, Ord)]
 pub struct Moment(u64);
+
+impl Same for Moment {
+    fn is_same(&self, other: &Moment) -> bool {
+        self == other
+    }
+}
 
 impl Model for Moment {
     ghost Value = { ℕ };

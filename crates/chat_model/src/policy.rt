@@ -2,6 +2,8 @@
 ghost use Rattle.std.specs.Prelude.{◌≡◌};
 ghost use Rattle.chat_model.specs.Settings.{changed_specific};
 
+use crate::Same;
+
 /// What a user wants of a topic. After Zulip help center: "Topic notifications".
 #[derive(Clone, Copy, Debug, Default, PartialEq, Eq)]
 pub enum Policy {
@@ -14,6 +16,12 @@ pub enum Policy {
     Unmuted,
     /// More than else: the topic is followed.
     Followed,
+}
+
+impl Same for Policy {
+    fn is_same(&self, other: &Policy) -> bool {
+        self == other
+    }
 }
 
 /// A user's settings for one channel. `None` is the default: what the user's own settings say.
@@ -64,4 +72,10 @@ pub enum SpecificChange {
     Mail(Option<bool>),
     Push(Option<bool>),
     Wildcards(Option<bool>),
+}
+
+impl Same for SpecificChange {
+    fn is_same(&self, other: &SpecificChange) -> bool {
+        self == other
+    }
 }

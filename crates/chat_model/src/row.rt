@@ -17,6 +17,12 @@ pub enum Stage {
     Ready,
 }
 
+impl Same for Stage {
+    fn is_same(&self, other: &Stage) -> bool {
+        self == other
+    }
+}
+
 /// What cancelled a notice.
 #[derive(Clone, Copy, Debug, PartialEq, Eq, Hash)]
 pub enum Cause {
@@ -150,6 +156,12 @@ pub enum RowKey {
     Message(MessageId),
     Pending(UserId, MessageId, Way),
     Outbox(EntryNo),
+}
+
+impl Same for RowKey {
+    fn is_same(&self, other: &RowKey) -> bool {
+        self == other
+    }
 }
 
 fn way_number(way: Way) -> u8

@@ -2,6 +2,8 @@
 ghost use Rattle.std.specs.Prelude.{◌≡◌};
 ghost use Rattle.chat_model.specs.Settings.{changed_settings};
 
+use crate::Same;
+
 /// Nine switches, and the period of a user's mails in seconds (1 to 604,800).
 #[derive(Clone, Copy, Debug, PartialEq, Eq)]
 pub struct Settings {
@@ -15,6 +17,12 @@ pub struct Settings {
     pub followed_push: bool,
     pub followed_wildcards: bool,
     pub period: u64,
+}
+
+impl Same for Settings {
+    fn is_same(&self, other: &Settings) -> bool {
+        self == other
+    }
 }
 
 impl Default for Settings {
@@ -72,4 +80,10 @@ pub enum SettingChange {
     FollowedMail(bool),
     FollowedPush(bool),
     FollowedWildcards(bool),
+}
+
+impl Same for SettingChange {
+    fn is_same(&self, other: &SettingChange) -> bool {
+        self == other
+    }
 }

@@ -1,7 +1,7 @@
 use crate::{
     ChannelId, Conversation, Deal, DealNo, Entry, EntryNo, Event, GroupId, GroupName, Item, List,
     MessageId, Moment, OutOfMemory, Outcome, Policy, PushItem, QueueId, Request, Row, RowChange,
-    RowKey, SettingChange, Settings, Specific, SpecificChange, Stage, Stamped, Text, Trigger,
+    RowKey, Same, SettingChange, Settings, Specific, SpecificChange, Stage, Stamped, Text, Trigger,
     UserId, UserName, UserVerdict, Verdict, Way, duplicate_all,
 };
 use std::alloc::Global;
@@ -315,6 +315,25 @@ fn events_are_copied(rt: HostRuntime) -> Result<(), Fail> {
 }
 
 #[test]
+fn absorbed_outcomes_are_copied(rt: HostRuntime) -> Result<(), Fail> {
+    let alloc = rt.alloc();
+    let mut deals = List::new(alloc);
+    deals.push(DealNo(3))?;
+    let missed = Outcome::Missed {
+        user: UserId(2),
+        deals,
+    };
+    match Event::Absorbed(missed).copy(alloc)? {
+        Event::Absorbed(Outcome::Missed { user, deals }) => {
+            assert_eq!(rt; user, UserId(2));
+            assert_eq!(rt; deals.as_slice(), [DealNo(3)].as_slice());
+        }
+        _ => panic!(rt; "another event"),
+    }
+    Ok(())
+}
+
+#[test]
 fn entries_are_copied_with_their_items(rt: HostRuntime) -> Result<(), Fail> {
     let alloc = rt.alloc();
     match mail_entry(alloc)?.copy(alloc)? {
@@ -498,5 +517,44 @@ fn direct_conversations_and_push_items_are_copied(rt: HostRuntime) -> Result<(),
         }
         PushItem::Notify { .. } => panic!(rt; "another item"),
     }
+    Ok(())
+}
+
+#[test]
+fn lists_are_the_same_by_their_items(rt: HostRuntime) -> Result<(), Fail> {
+    let one = List::from(vec![in rt.alloc(); UserId(3), UserId(5)]?);
+    let two = List::from(vec![in rt.alloc(); UserId(3), UserId(5)]?);
+    let longer = List::from(vec![in rt.alloc(); UserId(3), UserId(5), UserId(8)]?);
+    let other = List::from(vec![in rt.alloc(); UserId(3), UserId(8)]?);
+    assert!(rt; one.is_same(&two));
+    assert!(rt; !one.is_same(&longer));
+    assert!(rt; !longer.is_same(&one));
+    assert!(rt; !one.is_same(&other));
+    Ok(())
+}
+
+#[test]
+fn small_values_are_the_same_or_not(rt: HostRuntime) -> Result<(), Fail> {
+    assert!(rt; DealNo(7).is_same(&DealNo(7)));
+    assert!(rt; !DealNo(7).is_same(&DealNo(8)));
+    assert!(rt; Stage::Held.is_same(&Stage::Held));
+    assert!(rt; !Stage::Held.is_same(&Stage::Ready));
+    assert!(rt;
+        RowKey::Pending(UserId(1), MessageId(2), Way::Mail).is_same(&RowKey::Pending(
+            UserId(1),
+            MessageId(2),
+            Way::Mail
+        ))
+    );
+    assert!(rt;
+        !RowKey::Pending(UserId(1), MessageId(2), Way::Mail).is_same(&RowKey::Pending(
+            UserId(1),
+            MessageId(2),
+            Way::Push
+        ))
+    );
+    let settings = Settings::default();
+    assert!(rt; settings.is_same(&Settings::default()));
+    assert!(rt; !settings.is_same(&settings.changed(SettingChange::Wildcards(false))));
     Ok(())
 }

@@ -1,10 +1,18 @@
 //! The ways of a notice, and what triggers it.
 
+use crate::Same;
+
 /// How a user is notified.
 #[derive(Clone, Copy, Debug, PartialEq, Eq, Hash)]
 pub enum Way {
     Mail,
     Push,
+}
+
+impl Same for Way {
+    fn is_same(&self, other: &Way) -> bool {
+        self == other
+    }
 }
 
 /// Why a user is notified, in the order in which the triggers are tried.
@@ -18,4 +26,10 @@ pub enum Trigger {
     ChannelWildcard,
     FollowedTopic,
     Channel,
+}
+
+impl Same for Trigger {
+    fn is_same(&self, other: &Trigger) -> bool {
+        self == other
+    }
 }

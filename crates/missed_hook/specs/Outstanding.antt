@@ -6,22 +6,8 @@ use Rattle.chat_model.specs.declared.ids.DealNo.{DealNo}
 use Rattle.chat_model.specs.declared.ids.UserId.{UserId}
 use Rattle.chat_model.specs.declared.deal.Outcome.{Outcome}
 use Rattle.chat_model.specs.declared.deal.Outcome.TheVariants.{Dealt, Cleared, Missed}
-use Rattle.chat_model.specs.declared.deal.UserVerdict.{UserVerdict}
-use Rattle.chat_model.specs.declared.deal.Verdict.{Verdict}
-use Rattle.chat_model.specs.declared.deal.Verdict.TheVariants.{Idle, Live}
 use Rattle.chat_model.specs.Ascending.{ascending_once_by}
-
--- the list has the deal
-abbrev pub has_deal : List DealNo → DealNo → Bool
-has_deal deals k = list_any (λ d. d.0 == k.0) deals
-
-abbrev pub is_live : Verdict → Bool
-is_live Idle = false
-is_live Live = true
-
--- one of the verdicts is Live for the user
-abbrev pub gives_live : List UserVerdict → UserId → Bool
-gives_live verdicts u = list_any (λ v. v.user.0 == u.0 && is_live v.verdict) verdicts
+pub use Rattle.chat_model.specs.Outcomes.{has_deal, is_live, gives_live}
 
 -- the deal that the outcome gives Live for the user
 abbrev pub dealt_live : UserId → Outcome → Option DealNo

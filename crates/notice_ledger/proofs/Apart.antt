@@ -1,6 +1,6 @@
 -- Lists whose elements differ from one another, and that no two notices are of one user, message and way.
 use Rattle.std.proofs.Common.{◌≡◌, ℕ, zero, suc, ◌+◌, ◌<◌, ◌≤◌, Bool, true, false, ◌&&◌, eqb, cond, List, [], ◌∷◌, ◌++◌, length, map, refl, ap, ◌∙◌, subst, arith}
-use Rattle.std.specs.Prelude.{Option, Some, None, option_map, filter, MatchOption, is_none}
+use Rattle.std.specs.Prelude.{Option, Some, None, option_map, filter, MatchOption}
 use Rattle.std.specs.Option.{option_map_or}
 use Rattle.std.specs.List.{AllByRecursion, filter_map, flat_map, cons_option, range_with_len}
 use Rattle.std.proofs.lemmas.Bool.{ne_eqb}
@@ -12,11 +12,11 @@ use Rattle.chat_model.specs.declared.trigger.Trigger.{Trigger}
 use Rattle.notice_ledger.specs.Past.Journal.{Occurrence, occurrence}
 use Rattle.notice_ledger.specs.Past.Values.{SentMessage, people, message_of, messages, deal_count}
 use Rattle.notice_ledger.specs.Past.Triggers.{trigger, came_by}
-use Rattle.notice_ledger.specs.Past.Owed.{Notice, is_of, same_way, notice_of, owed_of, owed_by, notices, turn, waiting}
-use Rattle.notice_ledger.proofs.Lists.{AllByRecursion-append, AllByRecursion-weaker, AllByRecursion-filter_map, by_appending}
+use Rattle.notice_ledger.specs.Past.Owed.{Notice, is_of, same_way, notice_of, owed_of, owed_by, notices, account_of, is_pending, waiting}
+use Rattle.notice_ledger.proofs.Lists.{AllByRecursion-append, AllByRecursion-weaker, AllByRecursion-filter_map, by_appending, AllByRecursion-filter}
 use Rattle.notice_ledger.proofs.Appended.{notices-nil, notices-append}
 use Rattle.notice_ledger.proofs.Waiting.{IsOwedBy, owed_by-each}
-use Rattle.notice_ledger.proofs.Ascending.{AllByRecursion-filter, notices-numbered}
+use Rattle.notice_ledger.proofs.Ascending.{notices-numbered}
 
 -- each element stands in R to the elements after it
 abbrev pub Pairwise : {X : Type 0} → (X → X → Type 0) → List X → Type 0
@@ -154,4 +154,4 @@ notices-apart = by_appending (λ j. Pairwise Differ (notices j)) (rw notices-nil
 
 pub waiting-apart : (j : List Stamped) → Pairwise Differ (waiting j)
 unfolding waiting
-waiting-apart j = Pairwise-filter Differ (λ n. is_none (turn j n)) (notices j) (notices-apart j)
+waiting-apart j = Pairwise-filter Differ (λ n. is_pending (account_of j n)) (notices j) (notices-apart j)

@@ -7,7 +7,7 @@ use Rattle.notice_ledger.specs.Past.Journal.{occurrence}
 use Rattle.notice_ledger.specs.Past.Values.{SentMessage, message_of, messages}
 use Rattle.notice_ledger.specs.Past.Owed.{owed_of, owed_by, notices}
 use Rattle.std.specs.Option.{option_map_or}
-use Rattle.notice_ledger.proofs.Lists.{AllByRecursion-append, AllByRecursion-weaker, by_appending}
+use Rattle.notice_ledger.proofs.Lists.{AllByRecursion-append, AllByRecursion-weaker, AllByRecursion-filter, by_appending}
 use Rattle.notice_ledger.proofs.Appended.{notices-nil, notices-append, messages-append}
 use Rattle.notice_ledger.proofs.Waiting.{IsOwedBy, owed_by-each, notices-placed}
 
@@ -22,14 +22,6 @@ Ascends-append key bound (x ∷ xs) ys hx low hy high = (
   AllByRecursion-append (λ y. key x ≤ key y) xs ys hx.0 (AllByRecursion-weaker (λ y. bound ≤ key y) (λ y. key x ≤ key y) (λ y le. omega (arith, low.0)) ys high),
   Ascends-append key bound xs ys hx.1 low.1 hy high,
 )
-
-pub AllByRecursion-filter : {X : Type 0} (P : X → Type 0) (p : X → Bool) (xs : List X) → AllByRecursion P xs → AllByRecursion P (filter p xs)
-AllByRecursion-filter P p [] h = tt
-AllByRecursion-filter P p (x ∷ xs) h =
-    elim (p x) as (λ b. AllByRecursion P (cond b (x ∷ filter p xs) (filter p xs))) [
-      | true ↦ (h.0, AllByRecursion-filter P p xs h.1)
-      | false ↦ AllByRecursion-filter P p xs h.1
-    ]
 
 pub Ascends-filter : {X : Type 0} (key : X → ℕ) (p : X → Bool) (xs : List X) → Ascends key xs → Ascends key (filter p xs)
 Ascends-filter key p [] h = tt

@@ -1,129 +1,203 @@
--- The counts of a journal: a notice that waits is ready, and one that had its turn is handed over, with an entry of its
--- own, or was switched off.
-use Rattle.std.proofs.Common.{◌≡◌, ℕ, ◌+◌, Bool, true, false, cond, not, List, ◌∷◌, [], ◌++◌, length, refl, sym, ap, ◌∙◌, arith, length-append}
-use Rattle.std.specs.Prelude.{Option, Some, None, is_none, filter, sum_by, if◌then◌else◌}
-use Rattle.std.specs.Option.{option_map_or}
-use Rattle.std.proofs.lemmas.List.Sums.{length-filter}
-use Rattle.std.proofs.lemmas.List.Filters.{length-filter_both}
+-- The counts of a journal: the pending notices are those that wait, each handed one has an entry of its own, and turns with
+-- the switch off and live queues cancel the others.
+use Rattle.std.proofs.Common.{◌≡◌, ℕ, ◌+◌, ◌<◌, Bool, true, false, ◌&&◌, cond, List, ◌∷◌, [], ◌++◌, length, refl, sym, ap, ◌∙◌, arith}
+use Rattle.std.specs.Prelude.{Option, Some, None, option_map, is_some, filter, sum_by, count_by, if◌then◌else◌}
+use Rattle.std.proofs.lemmas.List.Sums.{length-filter, sum_by-append, sum_by-cons}
 use Rattle.chat_model.specs.declared.event.Stamped.{Stamped}
+use Rattle.chat_model.specs.declared.row.Cause.{Cause}
 use Rattle.chat_model.specs.declared.row.Cause.TheVariants.{Read, Deleted, SwitchedOff}
 use Rattle.notice_ledger.specs.declared.accounts.Account.{Account}
-use Rattle.notice_ledger.specs.declared.accounts.Account.TheVariants.{Flight, Held, Ready, Handed, Cancelled, LiveQueue}
+use Rattle.notice_ledger.specs.declared.accounts.Account.TheVariants.{NotOwed, Flight, Held, Ready, Handed, Cancelled, LiveQueue}
 use Rattle.notice_ledger.specs.Past.Journal.{Occurrence, occurrence}
-use Rattle.notice_ledger.specs.Past.Owed.{Notice, notices, owed_by, turn, switch_on, decided, account_of, waiting}
+use Rattle.notice_ledger.specs.Past.Owed.{Notice, notices, owed_by, ready, was_cleared, was_dealt, turn, switch_on, decided, account_by, account_of, is_pending, waiting}
 use Rattle.notice_ledger.specs.Past.Outbox.{outbox, entries_by}
-use Rattle.notice_ledger.specs.Past.Audit.{same_account, owed_with, in_64_bits, counts_of}
-use Rattle.notice_ledger.proofs.Appended.{notices-append, outbox-append}
+use Rattle.notice_ledger.specs.Past.Audit.{same_cause, same_account, owed_with, in_64_bits, counts_of}
+use Rattle.notice_ledger.proofs.Appended.{notices-append}
 use Rattle.notice_ledger.proofs.Apart.{AllByRecursion-from_all}
-use Rattle.notice_ledger.proofs.Handed.{handed, outbox-length}
-use Rattle.notice_ledger.proofs.Sums.{sum_by_same, sum_by_none_where, sum_by_both_where}
-use Rattle.notice_ledger.proofs.Waiting.{is_turn, waiting-append}
+use Rattle.notice_ledger.proofs.Batches.{is_ready}
+use Rattle.notice_ledger.proofs.Handed.{is_handed, is_handed_by, entries_by-handed, outbox-handed, none_plus, plus_none}
+use Rattle.notice_ledger.proofs.Standing.{is_turn, is_readying, is_clearing, is_dealing, moved, moved_by, account_of-plain, account_of-append}
+use Rattle.notice_ledger.proofs.Sums.{sum_by_same, sum_by_none_where, sum_by_both_where, sum_by-filter}
+use Rattle.notice_ledger.proofs.Waiting.{IsOwedBy, owed_by-each, notices-placed, account_of-new, waiting-pending}
 
--- how many notices were switched off at their turns
+-- how many notices were switched off at their turns, and how many a live queue cleared
 abbrev pub switched_off : List Stamped → ℕ
 switched_off j = owed_with j (Cancelled SwitchedOff)
 
--- a notice is ready until its turn
-is_ready : (n : Notice) (t : Option Occurrence) → same_account (option_map_or (decided n) t Ready) Ready ≡ is_none t
-is_ready n None = refl
-is_ready n (Some t) = by (switch_on t.past n.user n.way)
-  where
-    by : (b : Bool) → same_account (if b then Handed else Cancelled SwitchedOff) Ready ≡ false
-    by true = refl
-    by false = refl
+abbrev pub cleared_live : List Stamped → ℕ
+cleared_live j = owed_with j LiveQueue
 
--- and handed over from a turn on that found the switch on
-is_handed : (n : Notice) (t : Option Occurrence) → ◌≡◌ {A = ℕ} (cond (same_account (option_map_or (decided n) t Ready) Handed) 1 0) (handed n t)
-is_handed n None = refl
-is_handed n (Some t) = by (switch_on t.past n.user n.way)
-  where
-    by : (b : Bool) → ◌≡◌ {A = ℕ} (cond (same_account (if b then Handed else Cancelled SwitchedOff) Handed) 1 0) (cond b 1 0)
-    by true = refl
-    by false = refl
-
--- it is ready, handed over or switched off
-one_of_three : (n : Notice) (t : Option Occurrence) → ◌≡◌ {A = ℕ} 1 ((cond (same_account (option_map_or (decided n) t Ready) Ready) 1 0 + cond (same_account (option_map_or (decided n) t Ready) Handed) 1 0) + cond (same_account (option_map_or (decided n) t Ready) (Cancelled SwitchedOff)) 1 0)
-one_of_three n None = refl
-one_of_three n (Some t) = by (switch_on t.past n.user n.way)
-  where
-    by : (b : Bool) → ◌≡◌ {A = ℕ} 1 ((cond (same_account (if b then Handed else Cancelled SwitchedOff) Ready) 1 0 + cond (same_account (if b then Handed else Cancelled SwitchedOff) Handed) 1 0) + cond (same_account (if b then Handed else Cancelled SwitchedOff) (Cancelled SwitchedOff)) 1 0)
-    by true = refl
-    by false = refl
-
--- and nothing else
-none_else : (account : Account) → same_account Ready account ≡ false → same_account Handed account ≡ false → same_account (Cancelled SwitchedOff) account ≡ false → (n : Notice) (t : Option Occurrence) → same_account (option_map_or (decided n) t Ready) account ≡ false
-none_else account not_ready not_handed not_off n None = not_ready
-none_else account not_ready not_handed not_off n (Some t) = by (switch_on t.past n.user n.way)
-  where
-    by : (b : Bool) → same_account (if b then Handed else Cancelled SwitchedOff) account ≡ false
-    by true = not_handed
-    by false = not_off
-
--- the ready notices are those that wait
-pub owed_with-ready : (j : List Stamped) → owed_with j Ready ≡ length (waiting j)
-unfolding owed_with waiting
-owed_with-ready j =
-    sum_by_same (λ n. cond (same_account (account_of j n) Ready) 1 0) (λ n. cond (is_none (turn j n)) 1 0) (λ n. ap (λ b. cond b 1 0) (is_ready n (turn j n))) (notices j)
-    ∙ sym (length-filter (λ n. is_none (turn j n)) (notices j))
+pub ones : {X : Type 0} (xs : List X) → length xs ≡ sum_by (λ x. 1) xs
+ones [] = refl
+ones (x ∷ xs) = let e = ones xs in let more = sum_by-cons (λ x. 1) x xs in omega arith
 
 -- each handed notice has an entry of its own
 pub owed_with-outbox : (j : List Stamped) → owed_with j Handed ≡ length (outbox j)
 unfolding owed_with
-owed_with-outbox j =
-    sum_by_same (λ n. cond (same_account (account_of j n) Handed) 1 0) (λ n. handed n (turn j n)) (λ n. is_handed n (turn j n)) (notices j) ∙ sym (outbox-length j)
+owed_with-outbox j = sym (ones (outbox j) ∙ outbox-handed (λ e. 1) (λ n. 1) (λ j at n way. refl) j)
 
--- no notice has another account
-pub owed_with-none : (j : List Stamped) (account : Account) → same_account Ready account ≡ false → same_account Handed account ≡ false → same_account (Cancelled SwitchedOff) account ≡ false → owed_with j account ≡ 0
+-- no notice is read or deleted yet
+pub owed_with-none : (j : List Stamped) (cause : Cause) → same_cause SwitchedOff cause ≡ false → owed_with j (Cancelled cause) ≡ 0
 unfolding owed_with
-owed_with-none j account not_ready not_handed not_off =
-    sum_by_none_where (λ _. Unit {0}) (λ n. cond (same_account (account_of j n) account) 1 0)
-    (λ n _. ap (λ b. cond b 1 0) (none_else account not_ready not_handed not_off n (turn j n))) (notices j) (AllByRecursion-from_all (λ _. Unit {0}) (λ _. tt) (notices j))
-
-ones : (ns : List Notice) → length ns ≡ sum_by (λ n. 1) ns
-ones ns = sym (length-all ns) ∙ length-filter (λ n. true) ns
+owed_with-none j cause other =
+    sum_by_none_where (λ _. Unit {0}) (λ n. cond (same_account (account_of j n) (Cancelled cause)) 1 0)
+    (λ n _. ap (λ b. cond b 1 0) (ap (λ a. same_account a (Cancelled cause)) (account_of-plain j n) ∙ by n (turn j n) (is_some (ready j n)) (was_cleared j n) (was_dealt j n)))
+    (notices j) (AllByRecursion-from_all (λ _. Unit {0}) (λ _. tt) (notices j))
   where
-    length-all : (ns : List Notice) → length (filter (λ n. true) ns) ≡ length ns
-    length-all [] = refl
-    length-all (n ∷ ns) = let e = length-all ns in omega arith
+    was_decided : (b : Bool) → same_account (if b then Handed else Cancelled SwitchedOff) (Cancelled cause) ≡ false
+    was_decided true = refl
+    was_decided false = other
 
--- each notice waits, has an entry of its own, or was switched off
-pub notices-counted : (j : List Stamped) → length (notices j) ≡ (length (waiting j) + length (outbox j)) + switched_off j
-unfolding owed_with
-notices-counted j =
-    let ready : Notice → ℕ = λ n. cond (same_account (account_of j n) Ready) 1 0 in
-    let over : Notice → ℕ = λ n. cond (same_account (account_of j n) Handed) 1 0 in
-    let off : Notice → ℕ = λ n. cond (same_account (account_of j n) (Cancelled SwitchedOff)) 1 0 in
-    let all = AllByRecursion-from_all (λ (_ : Notice). Unit {0}) (λ _. tt) (notices j) in
-    let apart : sum_by (λ n. 1) (notices j) ≡ sum_by (λ n. ready n + over n) (notices j) + switched_off j =
-    sum_by_both_where (λ (_ : Notice). Unit {0}) (λ n. 1) (λ n. ready n + over n) off (λ n _. one_of_three n (turn j n)) (notices j) all in
-    let both : sum_by (λ n. ready n + over n) (notices j) ≡ owed_with j Ready + owed_with j Handed =
-    sum_by_both_where (λ (_ : Notice). Unit {0}) (λ n. ready n + over n) ready over (λ n _. refl) (notices j) all in
-    let first = owed_with-ready j in let second = owed_with-outbox j in let whole = ones (notices j) in
-    omega (arith, apart, both, first, second, whole)
+    by : (n : Notice) (t : Option Occurrence) (r c d : Bool) → same_account (account_by (option_map (decided n) t) None r c d) (Cancelled cause) ≡ false
+    by n (Some t) r c d = was_decided (switch_on t.past n.user n.way)
+    by n None true c d = refl
+    by n None false true d = refl
+    by n None false false true = refl
+    by n None false false false = refl
 
--- the notices whose turn it is get an entry or are switched off
-pub switched_off-append : (j : List Stamped) (s : Stamped) → switched_off (j ++ s ∷ []) + length (entries_by j s.at s.event) ≡ switched_off j + length (filter (is_turn s) (waiting j))
+-- ---- the pending ones
+
+same_pending : (a account : Account) → is_pending account ≡ true → same_account a account ≡ (is_pending a && same_account a account)
+same_pending Flight account h = refl
+same_pending Held account h = refl
+same_pending Ready account h = refl
+same_pending a Flight h = refl
+same_pending a Held h = refl
+same_pending a Ready h = refl
+same_pending a NotOwed h = absurd (cc)
+same_pending a Handed h = absurd (cc)
+same_pending a (Cancelled cause) h = absurd (cc)
+same_pending a LiveQueue h = absurd (cc)
+
+and-cond : (b c : Bool) → ◌≡◌ {A = ℕ} (cond (b && c) 1 0) (cond b (cond c 1 0) 0)
+and-cond true c = refl
+and-cond false c = refl
+
+-- they are among those that wait
+pub owed_with-waiting : (j : List Stamped) (account : Account) → is_pending account ≡ true → owed_with j account ≡ count_by (λ n. same_account (account_of j n) account) (waiting j)
+unfolding owed_with waiting
+owed_with-waiting j account pending =
+    sum_by_same (λ n. cond (same_account (account_of j n) account) 1 0) (λ n. cond (is_pending (account_of j n)) (cond (same_account (account_of j n) account) 1 0) 0)
+    (λ n. ap (λ b. cond b 1 0) (same_pending (account_of j n) account pending) ∙ and-cond (is_pending (account_of j n)) (same_account (account_of j n) account)) (notices j)
+    ∙ sym (sum_by-filter (λ n. cond (same_account (account_of j n) account) 1 0) (λ n. is_pending (account_of j n)) (notices j))
+
+-- ---- one more event
+
+apart : (a account : Account) → is_pending a ≡ true → is_pending account ≡ false → same_account a account ≡ false
+apart Flight Flight h k = absurd (cc)
+apart Held Held h k = absurd (cc)
+apart Ready Ready h k = absurd (cc)
+apart Flight account h k = refl
+apart Held account h k = refl
+apart Ready account h k = refl
+apart NotOwed account h k = absurd (cc)
+apart Handed account h k = absurd (cc)
+apart (Cancelled cause) account h k = absurd (cc)
+apart LiveQueue account h k = absurd (cc)
+
+one_more : (tn rd cl dl : Bool) (decision a account : Account) → is_pending account ≡ false
+    → ◌≡◌ {A = ℕ} (cond (same_account (moved_by tn rd cl dl decision a) account) 1 0) (cond (same_account a account) 1 0 + cond (is_pending a) (cond (same_account (moved_by tn rd cl dl decision a) account) 1 0) 0)
+one_more tn rd cl dl decision Flight account h =
+    none_plus (cond (same_account (moved_by tn rd cl dl decision Flight) account) 1 0)
+    ∙ ap (λ b. cond b 1 0 + cond (same_account (moved_by tn rd cl dl decision Flight) account) 1 0) (sym (apart Flight account refl h))
+one_more tn rd cl dl decision Held account h =
+    none_plus (cond (same_account (moved_by tn rd cl dl decision Held) account) 1 0)
+    ∙ ap (λ b. cond b 1 0 + cond (same_account (moved_by tn rd cl dl decision Held) account) 1 0) (sym (apart Held account refl h))
+one_more tn rd cl dl decision Ready account h =
+    none_plus (cond (same_account (moved_by tn rd cl dl decision Ready) account) 1 0)
+    ∙ ap (λ b. cond b 1 0 + cond (same_account (moved_by tn rd cl dl decision Ready) account) 1 0) (sym (apart Ready account refl h))
+one_more tn rd cl dl decision a account h = plus_none (cond (same_account a account) 1 0)
+
+-- an account that isn't pending is that of more notices by those that wait and that the event brings to it
+pub owed_with-append : (j : List Stamped) (s : Stamped) (account : Account) → is_pending account ≡ false
+    → owed_with (j ++ s ∷ []) account ≡ owed_with j account + count_by (λ n. same_account (moved j s n (account_of j n)) account) (waiting j)
+unfolding owed_with waiting
+owed_with-append j s account other =
+    let later : Notice → ℕ = λ n. cond (same_account (account_of (j ++ s ∷ []) n) account) 1 0 in
+    let before : Notice → ℕ = λ n. cond (same_account (account_of j n) account) 1 0 in
+    let now : Notice → ℕ = λ n. cond (same_account (moved j s n (account_of j n)) account) 1 0 in
+    let brought : Notice → ℕ = λ n. cond (is_pending (account_of j n)) (now n) 0 in
+    let old : sum_by later (notices j) ≡ sum_by before (notices j) + sum_by brought (notices j) =
+    sum_by_both_where (λ n. n.owing.place < length j) later before brought
+    (λ n placed.
+    ap (λ a. cond (same_account a account) 1 0) (account_of-append j s n placed)
+    ∙ one_more (is_turn s n) (is_readying s n) (is_clearing s n) (is_dealing s n) (decided n (occurrence j s)) (account_of j n) account other) (notices j) (notices-placed j) in
+    let new : sum_by later (owed_by (occurrence j s)) ≡ 0 =
+    sum_by_none_where (IsOwedBy (occurrence j s)) later (λ n owed. ap (λ b. cond b 1 0) (ap (λ a. same_account a account) (account_of-new j s n owed) ∙ apart Flight account refl other)) (owed_by (occurrence j s)) (owed_by-each (occurrence j s)) in
+    let all : sum_by later (notices (j ++ s ∷ [])) ≡ sum_by later (notices j) + sum_by later (owed_by (occurrence j s)) = ap (sum_by later) (notices-append j s) ∙ sum_by-append later (notices j) (owed_by (occurrence j s)) in
+    let among : sum_by now (waiting j) ≡ sum_by brought (notices j) = sum_by-filter now (λ n. is_pending (account_of j n)) (notices j) in
+    whole (sum_by later (notices (j ++ s ∷ []))) (sum_by later (notices j)) (sum_by later (owed_by (occurrence j s))) (sum_by before (notices j)) (sum_by brought (notices j)) (sum_by now (waiting j)) all old new among
+  where
+    whole : (all old new before brought now : ℕ) → all ≡ old + new → old ≡ before + brought → new ≡ 0 → now ≡ brought → all ≡ before + now
+    whole all old new before brought now h1 h2 h3 h4 = omega arith
+
+-- the event is the turn of a ready notice
+abbrev pub is_turned : List Stamped → Stamped → Notice → Bool
+is_turned j s n = is_ready j n && is_turn s n
+
+-- a notice whose turn it is gets an entry or is switched off
+pub switched_off-append : (j : List Stamped) (s : Stamped) → switched_off (j ++ s ∷ []) + length (entries_by j s.at s.event) ≡ switched_off j + length (filter (is_turned j s) (waiting j))
 switched_off-append j s =
-    let before = notices-counted j in let after = notices-counted (j ++ s ∷ []) in
-    let both = length-filter_both (is_turn s) (λ n. not (is_turn s n)) (λ n. refl) (waiting j) in
-    let ns = ap length (notices-append j s) ∙ length-append (notices j) (owed_by (occurrence j s)) in
-    let ws = ap length (waiting-append j s) ∙ length-append (filter (λ n. not (is_turn s n)) (waiting j)) (owed_by (occurrence j s)) in
-    let es = ap length (outbox-append j s) ∙ length-append (outbox j) (entries_by j s.at s.event) in
+    let off : Notice → ℕ = λ n. cond (same_account (moved j s n (account_of j n)) (Cancelled SwitchedOff)) 1 0 in
+    let over : Notice → ℕ = λ n. cond (is_handed_by j s n) 1 0 in
+    let turned : Notice → ℕ = λ n. cond (is_turned j s n) 1 0 in
+    let more : switched_off (j ++ s ∷ []) ≡ switched_off j + sum_by off (waiting j) = owed_with-append j s (Cancelled SwitchedOff) refl in
+    let made : length (entries_by j s.at s.event) ≡ sum_by over (waiting j) = ones (entries_by j s.at s.event) ∙ entries_by-handed (λ e. 1) (λ n. 1) (λ j at n way. refl) j s in
+    let both : sum_by turned (waiting j) ≡ sum_by off (waiting j) + sum_by over (waiting j) =
+    sum_by_both_where (λ n. is_pending (account_of j n) ≡ true) turned off over
+    (λ n pending. one_of_two n (is_turn s n) (is_readying s n) (is_clearing s n) (is_dealing s n) (switch_on j n.user n.way) (account_of j n) pending) (waiting j) (waiting-pending j) in
+    let counted : length (filter (is_turned j s) (waiting j)) ≡ sum_by turned (waiting j) = length-filter (is_turned j s) (waiting j) in
+    whole (switched_off (j ++ s ∷ [])) (switched_off j) (sum_by off (waiting j)) (length (entries_by j s.at s.event)) (sum_by over (waiting j)) (sum_by turned (waiting j)) (length (filter (is_turned j s) (waiting j))) more made both counted
+  where
+    whole : (after before off made over turned counted : ℕ) → after ≡ before + off → made ≡ over → turned ≡ off + over → counted ≡ turned → after + made ≡ before + counted
+    whole after before off made over turned counted h1 h2 h3 h4 = omega arith
+
+    one_of_two : (n : Notice) (tn rd cl dl on : Bool) (a : Account) → is_pending a ≡ true
+        → ◌≡◌ {A = ℕ} (cond (same_account a Ready && tn) 1 0)
+        (cond (same_account (moved_by tn rd cl dl (if on then Handed else Cancelled SwitchedOff) a) (Cancelled SwitchedOff)) 1 0 + cond (is_handed (moved_by tn rd cl dl (if on then Handed else Cancelled SwitchedOff) a)) 1 0)
+    one_of_two n true rd cl dl true Ready h = refl
+    one_of_two n true rd cl dl false Ready h = refl
+    one_of_two n false rd cl dl on Ready h = refl
+    one_of_two n tn true cl dl on Held h = refl
+    one_of_two n tn false true dl on Held h = refl
+    one_of_two n tn false false dl on Held h = refl
+    one_of_two n tn true cl dl on Flight h = refl
+    one_of_two n tn false true dl on Flight h = refl
+    one_of_two n tn false false true on Flight h = refl
+    one_of_two n tn false false false on Flight h = refl
+    one_of_two n tn rd cl dl on NotOwed h = absurd (cc)
+    one_of_two n tn rd cl dl on Handed h = absurd (cc)
+    one_of_two n tn rd cl dl on (Cancelled cause) h = absurd (cc)
+    one_of_two n tn rd cl dl on LiveQueue h = absurd (cc)
+
+-- an event clears a waiting notice
+abbrev pub is_cleared_now : List Stamped → Stamped → Notice → Bool
+is_cleared_now j s n = same_account (moved j s n (account_of j n)) LiveQueue
+
+pub cleared_live-append : (j : List Stamped) (s : Stamped) → cleared_live (j ++ s ∷ []) ≡ cleared_live j + length (filter (is_cleared_now j s) (waiting j))
+cleared_live-append j s =
+    let more = owed_with-append j s LiveQueue refl in let cleared = length-filter (is_cleared_now j s) (waiting j) in
     omega arith
 
--- the counts by what waits, what is in the outbox and what was switched off
+-- ---- all counts
+
+-- how many of the waiting notices have an account
+abbrev pub waiting_with : List Stamped → Account → ℕ
+waiting_with j account = count_by (λ n. same_account (account_of j n) account) (waiting j)
+
+-- the counts by what waits, what is in the outbox, what was switched off and what was cleared
 pub counts_of-waiting : (j : List Stamped) → counts_of j ≡ record {
-  flight = 0;
-  held = 0;
-  ready = in_64_bits (length (waiting j));
+  flight = in_64_bits (waiting_with j Flight);
+  held = in_64_bits (waiting_with j Held);
+  ready = in_64_bits (waiting_with j Ready);
   handed = in_64_bits (length (outbox j));
   read = 0;
   deleted = 0;
   off = in_64_bits (switched_off j);
-  live = 0;
+  live = in_64_bits (cleared_live j);
   entries = in_64_bits (length (outbox j));
   waiting = 0;
   written = 0;
 }
 counts_of-waiting j =
-    rw (owed_with-none j Flight refl refl refl, owed_with-none j Held refl refl refl, owed_with-ready j, owed_with-outbox j, owed_with-none j (Cancelled Read) refl refl refl, owed_with-none j (Cancelled Deleted) refl refl refl, owed_with-none j LiveQueue refl refl refl)
+    rw (owed_with-waiting j Flight refl, owed_with-waiting j Held refl, owed_with-waiting j Ready refl, owed_with-outbox j, owed_with-none j Read refl, owed_with-none j Deleted refl)

@@ -1,5 +1,5 @@
 -- The deals, event by event: their count, their numbers, and the order of their users.
-use Rattle.std.proofs.Common.{◌≡◌, ℕ, zero, suc, ◌+◌, ◌≤◌, true, cond, List, [], ◌∷◌, ◌++◌, length, map, refl, sym, ap, ◌∙◌, subst, arith, length-append, zero-add}
+use Rattle.std.proofs.Common.{◌≡◌, ℕ, zero, suc, ◌+◌, ◌≤◌, true, cond, List, [], ◌∷◌, ◌++◌, length, map, refl, sym, ap, ◌∙◌, subst, arith, zero-add}
 use Rattle.std.specs.Prelude.{Option, Some, None, option_map, option_to_list, slice_get, count_by, ◌↔◌, ⊤}
 use Rattle.std.specs.List.{filter_map, cons_option}
 use Rattle.std.proofs.lemmas.Option.{slice_get_past}
@@ -10,7 +10,7 @@ use Rattle.chat_model.proofs.OnceEach.{ascending_once-ascending}
 use Rattle.chat_model.specs.declared.event.Stamped.{Stamped}
 use Rattle.chat_model.specs.declared.deal.Deal.{Deal}
 use Rattle.chat_model.specs.declared.ids.UserId.{UserId}
-use Rattle.notice_ledger.specs.Past.Journal.{Occurrence, occurrence, occurrences}
+use Rattle.notice_ledger.specs.Past.Journal.{occurrence, occurrences}
 use Rattle.notice_ledger.specs.Past.Values.{SentMessage, message_of, messages, deal_count}
 use Rattle.notice_ledger.specs.Past.Owed.{Notice, owed_by}
 use Rattle.notice_ledger.specs.Past.Deals.{deal_of, deal_made, deals}

@@ -1,90 +1,36 @@
--- What a turn hands over: the notices that wait for it, where the switch is on before it.
-use Rattle.std.proofs.Common.{◌≡◌, ℕ, ◌+◌, Bool, true, false, ◌&&◌, ◌==◌, eqb, cond, length, ◌<◌, List, [], ◌∷◌, ◌++◌, map, refl, sym, ap, ◌∙◌, arith, length-append}
-use Rattle.std.specs.Prelude.{Option, Some, None, is_none, filter, sum_by, if◌then◌else◌}
-use Rattle.std.specs.Option.{option_or, option_map_or}
-use Rattle.std.proofs.lemmas.List.{length-map}
-use Rattle.std.proofs.lemmas.List.Sums.{sum_by-append, length-filter}
+-- What turns hand over: the entries of the outbox are the notices that stand as handed.
+use Rattle.std.proofs.Common.{◌≡◌, ℕ, ◌+◌, ◌<◌, Bool, true, false, ◌&&◌, ◌==◌, eqb, cond, List, [], ◌∷◌, ◌++◌, length, map, refl, sym, ap, ◌∙◌, arith}
+use Rattle.std.specs.Prelude.{Option, Some, None, filter, sum_by, if◌then◌else◌}
+use Rattle.std.specs.List.{AllByRecursion}
+use Rattle.std.specs.Option.{option_map_or}
+use Rattle.std.proofs.lemmas.List.Sums.{sum_by-append}
 use Rattle.std.proofs.lemmas.Bool.{eqb-true}
 use Rattle.std.proofs.lemmas.Bool.Decides.{nat_tests}
 use Rattle.chat_model.specs.declared.event.Stamped.{Stamped}
 use Rattle.chat_model.specs.declared.event.Event.{Event}
-use Rattle.chat_model.specs.declared.event.Event.TheVariants.{Restart, Asked, MailTurn}
+use Rattle.chat_model.specs.declared.event.Event.TheVariants.{MailTurn}
+use Rattle.chat_model.specs.declared.entry.Entry.{Entry}
 use Rattle.chat_model.specs.declared.ids.UserId.{UserId}
 use Rattle.chat_model.specs.declared.ids.MessageId.{MessageId}
+use Rattle.chat_model.specs.declared.row.Cause.TheVariants.{SwitchedOff}
 use Rattle.chat_model.specs.declared.trigger.Way.{Way}
 use Rattle.chat_model.specs.declared.trigger.Way.TheVariants.{Mail, Push}
-use Rattle.notice_ledger.specs.Past.Journal.{Occurrence, occurrence}
-use Rattle.notice_ledger.specs.Past.Owed.{Notice, same_way, notices, owed_by, turn, is_turn_of, is_mail_turn_of, switch_on, waiting}
-use Rattle.notice_ledger.specs.Past.Due.{batch_rows}
-use Rattle.notice_ledger.specs.Past.Outbox.{mail_entry, by_message, entries_by, outbox}
+use Rattle.notice_ledger.specs.declared.accounts.Account.{Account}
+use Rattle.notice_ledger.specs.declared.accounts.Account.TheVariants.{NotOwed, Flight, Held, Ready, Handed, Cancelled, LiveQueue}
+use Rattle.notice_ledger.specs.Past.Journal.{occurrence}
+use Rattle.notice_ledger.specs.Past.Owed.{Notice, same_way, notices, owed_by, is_turn_of, is_mail_turn_of, switch_on, decided, account_of, is_pending, waiting}
+use Rattle.notice_ledger.specs.Past.Outbox.{mail_entry, mail_entries, entries_by, outbox}
+use Rattle.notice_ledger.specs.Past.Audit.{same_account}
 use Rattle.notice_ledger.proofs.Lists.{by_appending}
 use Rattle.notice_ledger.proofs.Appended.{notices-nil, notices-append, outbox-nil, outbox-append}
-use Rattle.notice_ledger.proofs.Waiting.{IsOwedBy, owed_by-each, notices-placed, is_turn, turn-append, turn-last}
-use Rattle.notice_ledger.proofs.Batches.{is_mail_of, by_message-batch_rows}
-use Rattle.notice_ledger.proofs.Sums.{sum_by_same, sum_by_none_where, sum_by_both_where, sum_by-filter}
-use Rattle.notice_ledger.proofs.Apart.{AllByRecursion-from_all}
+use Rattle.notice_ledger.proofs.Standing.{is_turn, is_readying, is_clearing, is_dealing, moved, moved_by, account_of-append}
+use Rattle.notice_ledger.proofs.Waiting.{IsOwedBy, owed_by-each, notices-placed, account_of-new, waiting-pending}
+use Rattle.notice_ledger.proofs.Batches.{is_ready_mail_of, by_message-mailed}
+use Rattle.notice_ledger.proofs.Sums.{sum_by_same_where, sum_by_none_where, sum_by_both_where, sum_by-map, sum_by-filter}
 
--- 1 where the notice had its turn, with the switch on before it
-abbrev pub handed : Notice → Option Occurrence → ℕ
-handed n t = option_map_or (λ o. cond (switch_on o.past n.user n.way) 1 0) t 0
-
--- 1 where the event is the notice's turn, with the switch on before it
-abbrev pub handed_by : List Stamped → Event → Notice → ℕ
-handed_by j e n = cond (is_turn_of n.user n.way e) (cond (switch_on j n.user n.way) 1 0) 0
-
--- 1 where the notice had no turn, or its turn with the switch on before it
-abbrev pub placed : Notice → Option Occurrence → ℕ
-placed n t = option_map_or (λ o. cond (switch_on o.past n.user n.way) 1 0) t 1
-
-pub plus_none : (n : ℕ) → n ≡ n + 0
-plus_none n = omega arith
-
-pub none_plus : (n : ℕ) → n ≡ 0 + n
-none_plus n = omega arith
-
-pub handed-later : (j : List Stamped) (s : Stamped) (n : Notice) (t : Option Occurrence) → handed n (option_or t (cond (is_turn s n) (Some (occurrence j s)) None)) ≡ handed n t + cond (is_none t) (handed_by j s.event n) 0
-handed-later j s n None =
-    elim (is_turn s n) as (λ b. handed n (cond b (Some (occurrence j s)) None) ≡ 0 + cond b (cond (switch_on j n.user n.way) 1 0) 0) [
-      | true ↦ none_plus (cond (switch_on j n.user n.way) 1 0)
-      | false ↦ refl
-    ]
-handed-later j s n (Some t) = plus_none (handed n (Some t))
-
-pub handed-none : (n : Notice) (t : Option Occurrence) → is_none t ≡ true → handed n t ≡ 0
-handed-none n None e = refl
-handed-none n (Some t) e = absurd (cc)
-
-pub cond_sum : (b c : Bool) (x y z : ℕ) → x ≡ y + cond c z 0 → cond b x 0 ≡ cond b y 0 + cond c (cond b z 0) 0
-cond_sum true c x y z e = e
-cond_sum false true x y z e = refl
-cond_sum false false x y z e = refl
-
-pub cond_none : (b : Bool) (x : ℕ) → x ≡ 0 → cond b x 0 ≡ 0
-cond_none true x e = e
-cond_none false x e = refl
-
-pub never : (b : Bool) → ◌≡◌ {A = ℕ} (cond b 0 0) 0
-never true = refl
-never false = refl
-
-pub never_both : (a b : Bool) → ◌≡◌ {A = ℕ} (cond (a && true) (cond b 0 0) 0) 0
-never_both true b = never b
-never_both false b = refl
-
-pub ends_false : (b : Bool) (x : ℕ) → cond (b && false) x 0 ≡ 0
-ends_false true x = refl
-ends_false false x = refl
-
-pub eqb-turned : (a b : ℕ) → eqb a b ≡ eqb b a
-eqb-turned a b = grind (arith, nat_tests)
-
-pub one_of_both : (b c on : Bool) → cond on (cond b (0 + cond c 1 0) 0) 0 ≡ cond (b && c && true) (cond on 1 0) 0
-one_of_both true true true = refl
-one_of_both true true false = refl
-one_of_both true false true = refl
-one_of_both true false false = refl
-one_of_both false c true = refl
-one_of_both false c false = refl
+-- the notice stands as handed
+abbrev pub is_handed : Account → Bool
+is_handed account = same_account account Handed
 
 pub same_user : (u v : UserId) → eqb u.0 v.0 ≡ true → u ≡ v
 same_user u v h = ap (λ (k : ℕ). let x : UserId = record { 0 = k } in x) (eqb-true u.0 v.0 h)
@@ -97,68 +43,179 @@ same_ways Mail Mail e = refl
 same_ways Push Push e = refl
 same_ways v w e = cc
 
-pub no_turn : (user : UserId) (way : Way) (e : Event) → is_mail_turn_of user e ≡ false → is_turn_of user way e ≡ false
-no_turn user Mail e h = h
-no_turn user Push e h = refl
+pub eqb-turned : (a b : ℕ) → eqb a b ≡ eqb b a
+eqb-turned a b = grind (arith, nat_tests)
 
--- ---- how many are handed over
+pub plus_none : (n : ℕ) → n ≡ n + 0
+plus_none n = omega arith
 
-abbrev one_if : Bool → ℕ
-one_if b = cond b 1 0
+pub none_plus : (n : ℕ) → n ≡ 0 + n
+none_plus n = omega arith
 
--- a turn of a notice's user hands it over where the user's switch is on
-mail_handed : (j : List Stamped) (u : UserId) (n : Notice) → ◌≡◌ {A = ℕ} (cond (is_mail_of u n) (cond (switch_on j u Mail) 1 0) 0) (handed_by j (MailTurn u) n)
-mail_handed j u n = by n.way refl
-  where
-    by : (w : Way) → n.way ≡ w → ◌≡◌ {A = ℕ} (cond (n.user.0 == u.0 && same_way n.way Mail) (cond (switch_on j u Mail) 1 0) 0) (cond (is_turn_of n.user n.way (MailTurn u)) (cond (switch_on j n.user n.way) 1 0) 0)
-    by Push e = rw e (ends_false (n.user.0 == u.0) (cond (switch_on j u Mail) 1 0))
-    by Mail e = rw e (elim (n.user.0 == u.0) as (λ a. n.user.0 == u.0 ≡ a → ◌≡◌ {A = ℕ} (cond (a && true) (cond (switch_on j u Mail) 1 0) 0) (cond (u.0 == n.user.0) (cond (switch_on j n.user Mail) 1 0) 0)) [
-      | true ↦ λ h.
-          ap (λ (x : UserId). one_if (switch_on j x Mail)) (sym (same_user n.user u h))
-          ∙ ap (λ t. cond t (one_if (switch_on j n.user Mail)) 0) (sym (eqb-turned u.0 n.user.0 ∙ h))
-      | false ↦ λ h. ap (λ t. cond t (one_if (switch_on j n.user Mail)) 0) (sym (eqb-turned u.0 n.user.0 ∙ h))
-    ] refl)
+-- ---- the user whose mail turn an event is
 
-none_handed : (j : List Stamped) (e : Event) → ((user : UserId) → is_mail_turn_of user e ≡ false) → (ns : List Notice) → 0 ≡ sum_by (handed_by j e) ns
-none_handed j e h ns =
-    sym (sum_by_none_where (λ _. Unit {0}) (handed_by j e) (λ n _. ap (λ b. cond b (one_if (switch_on j n.user n.way)) 0) (no_turn n.user n.way e (h n.user))) ns (AllByRecursion-from_all (λ _. Unit {0}) (λ _. tt) ns))
+abbrev pub turned_user : Event → Option UserId
+turned_user (MailTurn u) = Some u
+turned_user _ = None
 
-entries_length : (j : List Stamped) (at : ℕ) (on : Bool) (ns : List Notice) → length (if on then map (mail_entry j at) ns else []) ≡ cond on (length ns) 0
-entries_length j at true ns = length-map ns (mail_entry j at)
-entries_length j at false ns = refl
+pub mail_turn-user : (u : UserId) (e : Event) → is_mail_turn_of u e ≡ option_map_or (λ v. v.0 == u.0) (turned_user e) false
+mail_turn-user u (MailTurn v) = refl
+mail_turn-user u e = refl
 
-switched_length : (on : Bool) (p : Notice → Bool) (ns : List Notice) → cond on (length (filter p ns)) 0 ≡ sum_by (λ n. cond (p n) (cond on 1 0) 0) ns
-switched_length true p ns = length-filter p ns
-switched_length false p ns =
-    sym (sum_by_none_where (λ _. Unit {0}) (λ n. cond (p n) 0 0) (λ n _. never (p n)) ns (AllByRecursion-from_all (λ _. Unit {0}) (λ _. tt) ns))
+pub entries_by-user : (j : List Stamped) (at : ℕ) (e : Event) → entries_by j at e ≡ option_map_or (mail_entries j at) (turned_user e) []
+entries_by-user j at (MailTurn v) = refl
+entries_by-user j at e = refl
 
--- an event makes an entry for each notice that it hands over
-pub entries_by-length : (j : List Stamped) (at : ℕ) (e : Event) → length (entries_by j at e) ≡ sum_by (handed_by j e) (waiting j)
-entries_by-length j at Restart = none_handed j Restart (λ user. refl) (waiting j)
-entries_by-length j at (Asked r) = none_handed j (Asked r) (λ user. refl) (waiting j)
-entries_by-length j at (MailTurn u) =
-    entries_length j at (switch_on j u Mail) (by_message (batch_rows j u))
-    ∙ (ap (λ ns. cond (switch_on j u Mail) (length ns) 0) (by_message-batch_rows j u)
-    ∙ (switched_length (switch_on j u Mail) (is_mail_of u) (waiting j)
-    ∙ sum_by_same (λ n. cond (is_mail_of u n) (cond (switch_on j u Mail) 1 0) 0) (handed_by j (MailTurn u)) (mail_handed j u) (waiting j)))
+-- a push has no turn yet
+pub turn-user : (u : UserId) (w : Way) (e : Event) → is_turn_of u w e ≡ (same_way w Mail && option_map_or (λ v. v.0 == u.0) (turned_user e) false)
+turn-user u Mail e = mail_turn-user u e
+turn-user u Push e = refl
 
-waiting-sum : (f : Notice → ℕ) (j : List Stamped) → sum_by f (waiting j) ≡ sum_by (λ n. cond (is_none (turn j n)) (f n) 0) (notices j)
-unfolding waiting
-waiting-sum f j = sum_by-filter f (λ n. is_none (turn j n)) (notices j)
+-- ---- what an event hands over
 
--- each notice that was handed over has an entry of its own
-pub outbox-length : (j : List Stamped) → length (outbox j) ≡ sum_by (λ n. handed n (turn j n)) (notices j)
-outbox-length = by_appending (λ j. length (outbox j) ≡ sum_by (λ n. handed n (turn j n)) (notices j))
-    (ap length outbox-nil ∙ sym (ap (sum_by (λ n. handed n (turn [] n))) notices-nil))
-    (λ j s h.
-    let later = λ (n : Notice). handed n (turn (j ++ s ∷ []) n) in
-    let before = λ (n : Notice). handed n (turn j n) in
-    let old : sum_by later (notices j) ≡ sum_by before (notices j) + sum_by (λ n. cond (is_none (turn j n)) (handed_by j s.event n) 0) (notices j) =
-    sum_by_both_where (λ n. n.owing.place < length j) later before (λ n. cond (is_none (turn j n)) (handed_by j s.event n) 0)
-    (λ n placed. ap (handed n) (turn-append j s n placed) ∙ handed-later j s n (turn j n)) (notices j) (notices-placed j) in
-    let new : sum_by later (owed_by (occurrence j s)) ≡ 0 =
-    sum_by_none_where (IsOwedBy (occurrence j s)) later (λ n owed. handed-none n (turn (j ++ s ∷ []) n) (turn-last j s n owed)) (owed_by (occurrence j s)) (owed_by-each (occurrence j s)) in
-    let all = ap (sum_by later) (notices-append j s) ∙ sum_by-append later (notices j) (owed_by (occurrence j s)) in
-    let es = ap length (outbox-append j s) ∙ length-append (outbox j) (entries_by j s.at s.event) in
-    let more = entries_by-length j s.at s.event ∙ waiting-sum (handed_by j s.event) j in
-    omega arith)
+-- the event hands the notice over
+abbrev pub is_handed_by : List Stamped → Stamped → Notice → Bool
+is_handed_by j s n = is_handed (moved j s n (account_of j n))
+
+-- no event other than its turn hands a pending notice over
+not_handed : (rd cl dl : Bool) (decision a : Account) → is_pending a ≡ true → is_handed (moved_by false rd cl dl decision a) ≡ false
+not_handed rd cl dl decision Ready h = refl
+not_handed true cl dl decision Held h = refl
+not_handed false true dl decision Held h = refl
+not_handed false false dl decision Held h = refl
+not_handed true cl dl decision Flight h = refl
+not_handed false true dl decision Flight h = refl
+not_handed false false true decision Flight h = refl
+not_handed false false false decision Flight h = refl
+not_handed rd cl dl decision NotOwed h = absurd (cc)
+not_handed rd cl dl decision Handed h = absurd (cc)
+not_handed rd cl dl decision (Cancelled cause) h = absurd (cc)
+not_handed rd cl dl decision LiveQueue h = absurd (cc)
+
+-- its turn hands a pending notice over where it is ready, and the switch is on
+handed_at_turn : (rd cl dl on : Bool) (a : Account) → is_pending a ≡ true → is_handed (moved_by true rd cl dl (if on then Handed else Cancelled SwitchedOff) a) ≡ (same_account a Ready && on)
+handed_at_turn rd cl dl true Ready h = refl
+handed_at_turn rd cl dl false Ready h = refl
+handed_at_turn true cl dl on Held h = refl
+handed_at_turn false true dl on Held h = refl
+handed_at_turn false false dl on Held h = refl
+handed_at_turn true cl dl on Flight h = refl
+handed_at_turn false true dl on Flight h = refl
+handed_at_turn false false true on Flight h = refl
+handed_at_turn false false false on Flight h = refl
+handed_at_turn rd cl dl on NotOwed h = absurd (cc)
+handed_at_turn rd cl dl on Handed h = absurd (cc)
+handed_at_turn rd cl dl on (Cancelled cause) h = absurd (cc)
+handed_at_turn rd cl dl on LiveQueue h = absurd (cc)
+
+-- an entry of a notice counts for as much as the notice
+module _ (f : Entry → ℕ) (g : Notice → ℕ) (fits : (j : List Stamped) (at : ℕ) (n : Notice) → n.way ≡ Mail → f (mail_entry j at n) ≡ g n) where
+  -- a waiting notice counts where the event hands it over
+  one_handed : (j : List Stamped) (s : Stamped) (v : UserId) → turned_user s.event ≡ Some v → (n : Notice) → is_pending (account_of j n) ≡ true
+      → cond (is_ready_mail_of j v n) (cond (switch_on j v Mail) (f (mail_entry j s.at n)) 0) 0 ≡ cond (is_handed_by j s n) (g n) 0
+  one_handed j s v turned n pending = by n.way refl (n.user.0 == v.0) refl
+    where
+      goal : Bool → Bool → Type 0
+      goal mail handed = cond (mail && same_account (account_of j n) Ready) (cond (switch_on j v Mail) (f (mail_entry j s.at n)) 0) 0 ≡ cond handed (g n) 0
+
+      its_turn : is_turn s n ≡ (same_way n.way Mail && v.0 == n.user.0)
+      its_turn = turn-user n.user n.way s.event ∙ ap (λ (o : Option UserId). same_way n.way Mail && option_map_or (λ v. v.0 == n.user.0) o false) turned
+
+      nothing : is_turn s n ≡ false → is_handed_by j s n ≡ false
+      nothing e =
+          ap (λ t. is_handed (moved_by t (is_readying s n) (is_clearing s n) (is_dealing s n) (decided n (occurrence j s)) (account_of j n))) e
+          ∙ not_handed (is_readying s n) (is_clearing s n) (is_dealing s n) (decided n (occurrence j s)) (account_of j n) pending
+
+      counted : (ready on : Bool) → f (mail_entry j s.at n) ≡ g n → cond (true && ready) (cond on (f (mail_entry j s.at n)) 0) 0 ≡ cond (ready && on) (g n) 0
+      counted true true e = e
+      counted true false e = refl
+      counted false on e = refl
+
+      by : (w : Way) → n.way ≡ w → (b : Bool) → n.user.0 == v.0 ≡ b → cond (is_ready_mail_of j v n) (cond (switch_on j v Mail) (f (mail_entry j s.at n)) 0) 0 ≡ cond (is_handed_by j s n) (g n) 0
+      by Push way b user =
+          (λ i. cond ((user i && same_way (way i) Mail) && same_account (account_of j n) Ready) (cond (switch_on j v Mail) (f (mail_entry j s.at n)) 0) 0)
+          ∙ (never b
+          ∙ ap (λ t. cond t (g n) 0) (sym (nothing (its_turn ∙ ap (λ (x : Way). same_way x Mail && v.0 == n.user.0) way))))
+        where
+          never : (b : Bool) → cond ((b && false) && same_account (account_of j n) Ready) (cond (switch_on j v Mail) (f (mail_entry j s.at n)) 0) 0 ≡ 0
+          never true = refl
+          never false = refl
+      by Mail way false user =
+          (λ i. cond ((user i && same_way (way i) Mail) && same_account (account_of j n) Ready) (cond (switch_on j v Mail) (f (mail_entry j s.at n)) 0) 0)
+          ∙ ap (λ t. cond t (g n) 0) (sym (nothing (its_turn ∙ (ap (λ (x : Way). same_way x Mail && v.0 == n.user.0) way ∙ (eqb-turned v.0 n.user.0 ∙ user)))))
+      by Mail way true user =
+          let turn : is_turn s n ≡ true = its_turn ∙ (ap (λ (x : Way). same_way x Mail && v.0 == n.user.0) way ∙ (eqb-turned v.0 n.user.0 ∙ user)) in
+          let on : switch_on j n.user n.way ≡ switch_on j v Mail = ap (λ (x : Way). switch_on j n.user x) way ∙ ap (λ (u : UserId). switch_on j u Mail) (same_user n.user v user) in
+          (λ i. cond ((user i && same_way (way i) Mail) && same_account (account_of j n) Ready) (cond (switch_on j v Mail) (f (mail_entry j s.at n)) 0) 0)
+          ∙ (counted (same_account (account_of j n) Ready) (switch_on j v Mail) (fits j s.at n way)
+          ∙ ap (λ t. cond t (g n) 0) (sym (
+          (λ i. is_handed (moved_by (turn i) (is_readying s n) (is_clearing s n) (is_dealing s n) (if on i then Handed else Cancelled SwitchedOff) (account_of j n)))
+          ∙ handed_at_turn (is_readying s n) (is_clearing s n) (is_dealing s n) (switch_on j v Mail) (account_of j n) pending)))
+
+  entries_sum : (j : List Stamped) (at : ℕ) (on : Bool) (ns : List Notice) → sum_by f (if on then map (mail_entry j at) ns else []) ≡ sum_by (λ n. cond on (f (mail_entry j at n)) 0) ns
+  entries_sum j at true ns = sum_by-map f (mail_entry j at) ns
+  entries_sum j at false ns = sym (none ns)
+    where
+      none : (ns : List Notice) → sum_by (λ (n : Notice). 0) ns ≡ 0
+      none ns = sum_by_none_where (λ _. Unit {0}) (λ (n : Notice). 0) (λ n _. refl) ns (all ns)
+        where
+          all : (ns : List Notice) → AllByRecursion (λ _. Unit {0}) ns
+          all [] = tt
+          all (n ∷ ns) = (tt, all ns)
+
+  -- the entries that an event makes
+  pub entries_by-handed : (j : List Stamped) (s : Stamped) → sum_by f (entries_by j s.at s.event) ≡ sum_by (λ n. cond (is_handed_by j s n) (g n) 0) (waiting j)
+  entries_by-handed j s = ap (sum_by f) (entries_by-user j s.at s.event) ∙ by (turned_user s.event) refl
+    where
+      by : (o : Option UserId) → turned_user s.event ≡ o → sum_by f (option_map_or (mail_entries j s.at) o []) ≡ sum_by (λ n. cond (is_handed_by j s n) (g n) 0) (waiting j)
+      by None e =
+          sym (sum_by_none_where (λ n. is_pending (account_of j n) ≡ true) (λ n. cond (is_handed_by j s n) (g n) 0)
+          (λ n pending.
+          let no_turn : is_turn s n ≡ false = turn-user n.user n.way s.event ∙ (ap (λ (o : Option UserId). same_way n.way Mail && option_map_or (λ v. v.0 == n.user.0) o false) e ∙ ends_false (same_way n.way Mail)) in
+          ap (λ t. cond t (g n) 0) (
+          ap (λ t. is_handed (moved_by t (is_readying s n) (is_clearing s n) (is_dealing s n) (decided n (occurrence j s)) (account_of j n))) no_turn
+          ∙ not_handed (is_readying s n) (is_clearing s n) (is_dealing s n) (decided n (occurrence j s)) (account_of j n) pending))
+          (waiting j) (waiting-pending j))
+        where
+          ends_false : (b : Bool) → (b && false) ≡ false
+          ends_false true = refl
+          ends_false false = refl
+      by (Some v) e =
+          ap (λ ns. sum_by f (if switch_on j v Mail then map (mail_entry j s.at) ns else [])) (by_message-mailed j v)
+          ∙ (entries_sum j s.at (switch_on j v Mail) (filter (is_ready_mail_of j v) (waiting j))
+          ∙ (sum_by-filter (λ n. cond (switch_on j v Mail) (f (mail_entry j s.at n)) 0) (is_ready_mail_of j v) (waiting j)
+          ∙ sum_by_same_where (λ n. is_pending (account_of j n) ≡ true)
+          (λ n. cond (is_ready_mail_of j v n) (cond (switch_on j v Mail) (f (mail_entry j s.at n)) 0) 0)
+          (λ n. cond (is_handed_by j s n) (g n) 0) (one_handed j s v e) (waiting j) (waiting-pending j)))
+
+  waiting-sum : (h : Notice → ℕ) (j : List Stamped) → sum_by h (waiting j) ≡ sum_by (λ n. cond (is_pending (account_of j n)) (h n) 0) (notices j)
+  unfolding waiting
+  waiting-sum h j = sum_by-filter h (λ n. is_pending (account_of j n)) (notices j)
+
+  -- a notice is handed from the event on that hands it over
+  handed_later : (tn rd cl dl : Bool) (decision a : Account) (k : ℕ) → cond (is_handed (moved_by tn rd cl dl decision a)) k 0 ≡ cond (is_handed a) k 0 + cond (is_pending a) (cond (is_handed (moved_by tn rd cl dl decision a)) k 0) 0
+  handed_later tn rd cl dl decision Flight k = none_plus (cond (is_handed (moved_by tn rd cl dl decision Flight)) k 0)
+  handed_later tn rd cl dl decision Held k = none_plus (cond (is_handed (moved_by tn rd cl dl decision Held)) k 0)
+  handed_later tn rd cl dl decision Ready k = none_plus (cond (is_handed (moved_by tn rd cl dl decision Ready)) k 0)
+  handed_later tn rd cl dl decision a k = plus_none (cond (is_handed a) k 0)
+
+  -- the entries of the outbox are the notices that were handed over
+  pub outbox-handed : (j : List Stamped) → sum_by f (outbox j) ≡ sum_by (λ n. cond (is_handed (account_of j n)) (g n) 0) (notices j)
+  outbox-handed = by_appending (λ j. sum_by f (outbox j) ≡ sum_by (λ n. cond (is_handed (account_of j n)) (g n) 0) (notices j))
+      (ap (sum_by f) outbox-nil ∙ sym (ap (sum_by (λ n. cond (is_handed (account_of [] n)) (g n) 0)) notices-nil))
+      (λ j s h.
+      let later = λ (n : Notice). cond (is_handed (account_of (j ++ s ∷ []) n)) (g n) 0 in
+      let before = λ (n : Notice). cond (is_handed (account_of j n)) (g n) 0 in
+      let now = λ (n : Notice). cond (is_handed_by j s n) (g n) 0 in
+      let old : sum_by later (notices j) ≡ sum_by before (notices j) + sum_by (λ n. cond (is_pending (account_of j n)) (now n) 0) (notices j) =
+      sum_by_both_where (λ n. n.owing.place < length j) later before (λ n. cond (is_pending (account_of j n)) (now n) 0)
+      (λ n placed.
+      ap (λ a. cond (is_handed a) (g n) 0) (account_of-append j s n placed)
+      ∙ handed_later (is_turn s n) (is_readying s n) (is_clearing s n) (is_dealing s n) (decided n (occurrence j s)) (account_of j n) (g n))
+      (notices j) (notices-placed j) in
+      let new : sum_by later (owed_by (occurrence j s)) ≡ 0 =
+      sum_by_none_where (IsOwedBy (occurrence j s)) later (λ n owed. ap (λ a. cond (is_handed a) (g n) 0) (account_of-new j s n owed)) (owed_by (occurrence j s)) (owed_by-each (occurrence j s)) in
+      let all = ap (sum_by later) (notices-append j s) ∙ sum_by-append later (notices j) (owed_by (occurrence j s)) in
+      let es = ap (sum_by f) (outbox-append j s) ∙ sum_by-append f (outbox j) (entries_by j s.at s.event) in
+      let more = entries_by-handed j s ∙ waiting-sum now j in
+      omega arith)

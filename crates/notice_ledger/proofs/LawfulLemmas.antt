@@ -46,6 +46,19 @@ as_kept j = refl
 pub lawful-lawful : (j : List Stamped) → IsLawful (lawful j)
 lawful-lawful j = subst (λ k. lawful k ≡ k) (as_kept j) (kept_from-lawful [] j IsLawful-nil)
 
+-- what holds of no events, and goes on to one more lawful event, holds of lawful events
+pub lawful-by_steps : (P : List Stamped → Type 0) → P [] → ((j : List Stamped) (s : Stamped) → P j → past.is_lawful_after j s ≡ true → P (j ++ s ∷ [])) → (j : List Stamped) → P (lawful j)
+unfolding lawful
+lawful-by_steps P start step j = steps [] j start
+  where
+    steps : (kept j : List Stamped) → P kept → P (kept_from kept j)
+    steps kept [] h = h
+    steps kept (s ∷ ss) h = by (past.is_lawful_after kept s) refl (λ more p. steps more ss p)
+      where
+        by : (b : Bool) → past.is_lawful_after kept s ≡ b → ((more : List Stamped) → P more → P (kept_from more ss)) → P (kept_from (if b then kept ++ s ∷ [] else kept) ss)
+        by true next rest = rest (kept ++ s ∷ []) (step kept s h next)
+        by false next rest = rest kept h
+
 -- an event that is lawful behind the lawful events is kept, and another isn't
 pub kept-lawful : (j : List Stamped) (s : Stamped) (kept : List Stamped) → kept ≡ lawful j → past.is_lawful_after kept s ≡ true → kept ++ s ∷ [] ≡ lawful (j ++ s ∷ [])
 kept-lawful j s kept so_far next =

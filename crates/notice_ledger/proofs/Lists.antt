@@ -42,6 +42,23 @@ pub AllByRecursion-weaker : {X : Type 0} (P Q : X → Type 0) → ((x : X) → P
 AllByRecursion-weaker P Q h [] all = tt
 AllByRecursion-weaker P Q h (x ∷ xs) all = (h x all.0, AllByRecursion-weaker P Q h xs all.1)
 
+pub AllByRecursion-filter : {X : Type 0} (P : X → Type 0) (p : X → Bool) (xs : List X) → AllByRecursion P xs → AllByRecursion P (filter p xs)
+AllByRecursion-filter P p [] h = tt
+AllByRecursion-filter P p (x ∷ xs) h =
+    elim (p x) as (λ b. AllByRecursion P (cond b (x ∷ filter p xs) (filter p xs))) [
+      | true ↦ (h.0, AllByRecursion-filter P p xs h.1)
+      | false ↦ AllByRecursion-filter P p xs h.1
+    ]
+
+-- what a filter keeps passes
+pub filter-passed : {X : Type 0} (p : X → Bool) (xs : List X) → AllByRecursion (λ x. p x ≡ true) (filter p xs)
+filter-passed p [] = tt
+filter-passed p (x ∷ xs) =
+    elim (p x) as (λ b. p x ≡ b → AllByRecursion (λ y. p y ≡ true) (cond b (x ∷ filter p xs) (filter p xs))) [
+      | true ↦ λ e. (e, filter-passed p xs)
+      | false ↦ λ e. filter-passed p xs
+    ] refl
+
 given_first : {Y : Type 0} (P : Y → Type 0) (o : Option Y) (ys : List Y) → ((y : Y) → o ≡ Some y → P y) → AllByRecursion P ys → AllByRecursion P (cons_option o ys)
 given_first P None ys f all = all
 given_first P (Some y) ys f all = (f y refl, all)

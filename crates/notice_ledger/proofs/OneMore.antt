@@ -1,129 +1,173 @@
--- Accounts, batch rows, due moments, counts, members and subscribers at a journal with one more event.
-use Rattle.std.proofs.Common.{◌≡◌, ℕ, ◌+◌, ◌<◌, Bool, true, false, ◌&&◌, cond, not, List, [], ◌∷◌, ◌++◌, length, refl, sym, ap, ◌∙◌, subst, length-append}
-use Rattle.std.specs.Prelude.{Option, Some, None, option_map, option_to_list, unwrap_or, is_none, is_some, filter, find, count_by}
+-- Accounts, rows, batch rows, due moments, members and subscribers at a journal with one more event.
+use Rattle.std.proofs.Common.{◌≡◌, ℕ, ◌<◌, Bool, true, false, ◌&&◌, cond, not, List, [], ◌∷◌, ◌++◌, length, map, refl, sym, ap, ◌∙◌}
+use Rattle.std.specs.Prelude.{Option, Some, None, option_map, option_and_then, option_to_list, unwrap_or, is_some, filter, find, count_by, if◌then◌else◌}
 use Rattle.std.specs.Option.{option_map_or, option_or}
-use Rattle.std.specs.List.{AllByRecursion, filter_map, reduce}
-use Rattle.std.proofs.lemmas.List.Elements.{filter-append}
+use Rattle.std.specs.List.{AllByRecursion, filter_map, cons_option, reduce}
+use Rattle.std.proofs.lemmas.List.{append-nil}
+use Rattle.std.proofs.lemmas.List.Elements.{filter-append, filter_map-append}
 use Rattle.std.proofs.lemmas.List.Folds.{find-append}
-use Rattle.std.proofs.Math.Bool.{and_comm}
+use Rattle.std.proofs.Math.Bool.{and-false}
 use Rattle.chat_model.specs.declared.event.Stamped.{Stamped}
-use Rattle.chat_model.specs.declared.counts.Counts.{Counts}
 use Rattle.chat_model.specs.declared.ids.UserId.{UserId}
 use Rattle.chat_model.specs.declared.ids.MessageId.{MessageId}
 use Rattle.chat_model.specs.declared.ids.ChannelId.{ChannelId}
 use Rattle.chat_model.specs.declared.ids.GroupId.{GroupId}
+use Rattle.chat_model.specs.declared.row.Cause.TheVariants.{SwitchedOff}
+use Rattle.chat_model.specs.declared.row.Row.{Row}
+use Rattle.chat_model.specs.declared.row.Row.TheVariants as row
+use Rattle.chat_model.specs.declared.row.Stage.{Stage}
+use Rattle.chat_model.specs.declared.row.Stage.TheVariants as stage
 use Rattle.chat_model.specs.declared.trigger.Way.{Way}
-use Rattle.notice_ledger.specs.declared.accounts.Account.TheVariants.{NotOwed, Ready}
+use Rattle.notice_ledger.specs.declared.accounts.Account.{Account}
+use Rattle.notice_ledger.specs.declared.accounts.Account.TheVariants.{NotOwed, Flight, Held, Ready, Handed, Cancelled}
 use Rattle.notice_ledger.specs.Past.Journal.{Occurrence, occurrence}
-use Rattle.notice_ledger.specs.Past.Values.{users, settings, is_member, membership_change, member_count, subscribed, subscription_change, subscriber_count}
-use Rattle.notice_ledger.specs.Past.Owed.{Notice, is_of, notices, owed_by, turn, decided, account_of, account, waiting}
-use Rattle.notice_ledger.specs.Past.Due.{batch_rows, due, due_user, first_due, sooner}
-use Rattle.notice_ledger.specs.Past.Outbox.{outbox, entries_by}
-use Rattle.notice_ledger.specs.Past.Audit.{in_64_bits, counts_of}
-use Rattle.notice_ledger.proofs.Lists.{filter-filter, find-filter, first_of}
-use Rattle.notice_ledger.proofs.Appended.{notices-append, outbox-append, is_member-append, subscribed-append}
-use Rattle.notice_ledger.proofs.Waiting.{IsOwedBy, owed_by-each, notices-placed, is_turn, turn-append, turn-last, waiting-append}
-use Rattle.notice_ledger.proofs.Batches.{is_mail_of, filter_same, batch_rows-waiting, due-waiting}
-use Rattle.notice_ledger.proofs.Audited.{counts_of-waiting, switched_off}
+use Rattle.notice_ledger.specs.Past.Values.{users, is_member, membership_change, member_count, subscribed, subscription_change, subscriber_count}
+use Rattle.notice_ledger.specs.Past.Owed.{Notice, is_of, notices, owed_by, ready, was_cleared, was_dealt, turn, switch_on, decided, account_by, account_of, account, is_pending, waiting}
+use Rattle.notice_ledger.specs.Past.Rows.{stage_of, pending_row}
+use Rattle.notice_ledger.specs.Past.Due.{batch_rows, due_user, first_due, sooner}
+use Rattle.notice_ledger.specs.Past.Audit.{same_account}
+use Rattle.notice_ledger.proofs.Lists.{filter_same_where}
+use Rattle.notice_ledger.proofs.Appended.{notices-append, is_member-append, subscribed-append}
+use Rattle.notice_ledger.proofs.Behind.{find_all}
+use Rattle.notice_ledger.proofs.Standing.{is_turn, is_readying, is_clearing, is_dealing, moved, ready-append, account_of-plain, account_of-append, stage_after, stage_of-append, stage_after-same}
+use Rattle.notice_ledger.proofs.Waiting.{IsOwedBy, owed_by-each, notices-placed, account_of-new}
+use Rattle.notice_ledger.proofs.Batches.{is_mail_of, is_ready_mail_of, batch_rows-ready}
+use Rattle.notice_ledger.proofs.Stamps.{ready_stamp}
 use Rattle.notice_ledger.proofs.Sums.{sum_by_same}
 use Rattle.notice_ledger.proofs.There.{added_user, users-append}
 
 -- ---- accounts
 
--- where a notice of the journal stands after an event: a turn decides it where it had none
-pub account_of-append : (j : List Stamped) (s : Stamped) (n : Notice) → n.owing.place < length j → account_of (j ++ s ∷ []) n ≡ option_map_or (decided n) (turn j n) (cond (is_turn s n) (decided n (occurrence j s)) Ready)
-account_of-append j s n placed = ap (λ t. option_map_or (decided n) t Ready) (turn-append j s n placed) ∙ by (turn j n) (is_turn s n)
-  where
-    by : (t : Option Occurrence) (b : Bool) → option_map_or (decided n) (option_or t (cond b (Some (occurrence j s)) None)) Ready ≡ option_map_or (decided n) t (cond b (decided n (occurrence j s)) Ready)
-    by None true = refl
-    by None false = refl
-    by (Some o) b = refl
-
-find_all : {X : Type 0} (P : X → Type 0) (p : X → Bool) (xs : List X) (x : X) → AllByRecursion P xs → find p xs ≡ Some x → P x
-find_all P p [] x all e = absurd (cc)
-find_all {X} P p (y ∷ xs) x all e = by (p y) e (λ h. find_all P p xs x all.1 h)
-  where
-    by : (b : Bool) → cond b (Some y) (find p xs) ≡ Some x → (find p xs ≡ Some x → P x) → P x
-    by true h later = let same : y ≡ x = cc in subst P same all.0
-    by false h later = later h
-
 -- a notice that was owed
-pub account-append : (j : List Stamped) (s : Stamped) (u : UserId) (m : MessageId) (w : Way) (n : Notice) → find (is_of u m w) (notices j) ≡ Some n
-    → account (j ++ s ∷ []) u m w ≡ option_map_or (decided n) (turn j n) (cond (is_turn s n) (decided n (occurrence j s)) Ready)
+pub account-append : (j : List Stamped) (s : Stamped) (u : UserId) (m : MessageId) (w : Way) (n : Notice) → find (is_of u m w) (notices j) ≡ Some n → account (j ++ s ∷ []) u m w ≡ moved j s n (account_of j n)
 account-append j s u m w n found =
     ap (λ ns. option_map_or (account_of (j ++ s ∷ [])) (find (is_of u m w) ns) NotOwed) (notices-append j s)
     ∙ (ap (λ o. option_map_or (account_of (j ++ s ∷ [])) o NotOwed) (find-append (is_of u m w) (notices j) (owed_by (occurrence j s)) ∙ ap (λ o. option_or o (find (is_of u m w) (owed_by (occurrence j s)))) found)
     ∙ account_of-append j s n (find_all (λ n. n.owing.place < length j) (is_of u m w) (notices j) n (notices-placed j) found))
 
--- a notice that was not owed is ready where the event owes it
+-- a notice that was not owed is in flight where the event owes it
 pub account-append_new : (j : List Stamped) (s : Stamped) (u : UserId) (m : MessageId) (w : Way) → find (is_of u m w) (notices j) ≡ None
-    → account (j ++ s ∷ []) u m w ≡ cond (is_some (find (is_of u m w) (owed_by (occurrence j s)))) Ready NotOwed
+    → account (j ++ s ∷ []) u m w ≡ cond (is_some (find (is_of u m w) (owed_by (occurrence j s)))) Flight NotOwed
 account-append_new j s u m w missing =
     ap (λ ns. option_map_or (account_of (j ++ s ∷ [])) (find (is_of u m w) ns) NotOwed) (notices-append j s)
     ∙ (ap (λ o. option_map_or (account_of (j ++ s ∷ [])) o NotOwed) (find-append (is_of u m w) (notices j) (owed_by (occurrence j s)) ∙ ap (λ o. option_or o (find (is_of u m w) (owed_by (occurrence j s)))) missing)
     ∙ by (find (is_of u m w) (owed_by (occurrence j s))) refl)
   where
-    no_turn : (t : Option Occurrence) (n : Notice) → is_none t ≡ true → option_map_or (decided n) t Ready ≡ Ready
-    no_turn None n e = refl
-    no_turn (Some o) n e = absurd (cc)
-
-    by : (o : Option Notice) → find (is_of u m w) (owed_by (occurrence j s)) ≡ o → option_map_or (account_of (j ++ s ∷ [])) o NotOwed ≡ cond (is_some o) Ready NotOwed
+    by : (o : Option Notice) → find (is_of u m w) (owed_by (occurrence j s)) ≡ o → option_map_or (account_of (j ++ s ∷ [])) o NotOwed ≡ cond (is_some o) Flight NotOwed
     by None e = refl
-    by (Some n) e = no_turn (turn (j ++ s ∷ []) n) n (turn-last j s n (find_all (IsOwedBy (occurrence j s)) (is_of u m w) (owed_by (occurrence j s)) n (owed_by-each (occurrence j s)) e))
+    by (Some n) e = account_of-new j s n (find_all (IsOwedBy (occurrence j s)) (is_of u m w) (owed_by (occurrence j s)) n (owed_by-each (occurrence j s)) e)
+
+-- ---- rows of pending notices
+
+-- a pending notice's row
+abbrev pub row_at_stage : Notice → Stage → Row
+row_at_stage n g = row.Pending n.user n.number n.way n.trigger n.deal g
+
+-- the row of a notice after an event, none where it is pending no more
+abbrev pub pending_row_after : List Stamped → Stamped → Notice → Option Row
+pending_row_after j s n = option_map (row_at_stage n) (option_and_then (stage_after s n) (stage_of (account_of j n)))
+
+pub pending_row-append : (j : List Stamped) (s : Stamped) (n : Notice) → n.owing.place < length j → pending_row (j ++ s ∷ []) n ≡ pending_row_after j s n
+pending_row-append j s n placed = ap (option_map (row_at_stage n)) (stage_of-append j s n placed)
+
+-- a notice to which an event is nothing keeps its row
+pub pending_row-same : (j : List Stamped) (s : Stamped) (n : Notice) → n.owing.place < length j → is_turn s n ≡ false → is_readying s n ≡ false → is_clearing s n ≡ false → is_dealing s n ≡ false → pending_row (j ++ s ∷ []) n ≡ pending_row j n
+pending_row-same j s n placed tn rd cl dl =
+    pending_row-append j s n placed ∙ ap (option_map (row_at_stage n)) (by (stage_of (account_of j n)))
+  where
+    by : (o : Option Stage) → option_and_then (stage_after s n) o ≡ o
+    by None = refl
+    by (Some g) = stage_after-same s n g tn rd cl dl
+
+filter_map_same_where : {X Y : Type 0} (P : X → Type 0) (f g : X → Option Y) → ((x : X) → P x → f x ≡ g x) → (xs : List X) → AllByRecursion P xs → filter_map f xs ≡ filter_map g xs
+filter_map_same_where P f g h [] all = refl
+filter_map_same_where P f g h (x ∷ xs) all = ap (λ o. cons_option o (filter_map f xs)) (h x all.0) ∙ ap (cons_option (g x)) (filter_map_same_where P f g h xs all.1)
+
+map-filter_map_some : {X Y : Type 0} (P : X → Type 0) (f : X → Option Y) (g : X → Y) → ((x : X) → P x → f x ≡ Some (g x)) → (xs : List X) → AllByRecursion P xs → filter_map f xs ≡ map g xs
+map-filter_map_some P f g h [] all = refl
+map-filter_map_some P f g h (x ∷ xs) all = ap (λ o. cons_option o (filter_map f xs)) (h x all.0) ∙ ap (λ ys. g x ∷ ys) (map-filter_map_some P f g h xs all.1)
+
+-- the rows of the pending notices: each moves on by what the event is to it, and those that the event owes are in flight
+pub pending_rows-append : (j : List Stamped) (s : Stamped) → filter_map (pending_row (j ++ s ∷ [])) (notices (j ++ s ∷ [])) ≡ filter_map (pending_row_after j s) (notices j) ++ map (λ n. row_at_stage n stage.Flight) (owed_by (occurrence j s))
+pending_rows-append j s =
+    ap (filter_map (pending_row (j ++ s ∷ []))) (notices-append j s)
+    ∙ (filter_map-append (pending_row (j ++ s ∷ [])) (notices j) (owed_by (occurrence j s))
+    ∙ (ap (λ rs. rs ++ filter_map (pending_row (j ++ s ∷ [])) (owed_by (occurrence j s)))
+    (filter_map_same_where (λ n. n.owing.place < length j) (pending_row (j ++ s ∷ [])) (pending_row_after j s) (pending_row-append j s) (notices j) (notices-placed j))
+    ∙ ap (λ rs. filter_map (pending_row_after j s) (notices j) ++ rs)
+    (map-filter_map_some (IsOwedBy (occurrence j s)) (pending_row (j ++ s ∷ [])) (λ n. row_at_stage n stage.Flight) (λ n owed. ap (λ a. option_map (row_at_stage n) (stage_of a)) (account_of-new j s n owed)) (owed_by (occurrence j s)) (owed_by-each (occurrence j s)))))
+
+-- what has no row isn't among those that wait
+pub pending_rows-waiting : (j : List Stamped) → filter_map (pending_row j) (notices j) ≡ filter_map (pending_row j) (waiting j)
+unfolding waiting
+pending_rows-waiting j = each (notices j)
+  where
+    one : (n : Notice) (a : Account) (rest : List Row) (others : List Notice) → rest ≡ filter_map (pending_row j) others → account_of j n ≡ a → cons_option (option_map (row_at_stage n) (stage_of a)) rest ≡ filter_map (pending_row j) (cond (is_pending a) (n ∷ others) others)
+    one n Flight rest others e at = ap (cons_option (Some (row_at_stage n stage.Flight))) e ∙ ap (λ b. cons_option (option_map (row_at_stage n) (stage_of b)) (filter_map (pending_row j) others)) (sym at)
+    one n Held rest others e at = ap (cons_option (Some (row_at_stage n stage.Held))) e ∙ ap (λ b. cons_option (option_map (row_at_stage n) (stage_of b)) (filter_map (pending_row j) others)) (sym at)
+    one n Ready rest others e at = ap (cons_option (Some (row_at_stage n stage.Ready))) e ∙ ap (λ b. cons_option (option_map (row_at_stage n) (stage_of b)) (filter_map (pending_row j) others)) (sym at)
+    one n a rest others e at = e
+
+    each : (ns : List Notice) → filter_map (pending_row j) ns ≡ filter_map (pending_row j) (filter (λ n. is_pending (account_of j n)) ns)
+    each [] = refl
+    each (n ∷ ns) = one n (account_of j n) (filter_map (pending_row j) ns) (filter (λ n. is_pending (account_of j n)) ns) (each ns) refl
 
 -- ---- batch rows and due moments
 
-filter-swap : (p q : Notice → Bool) (ns : List Notice) → filter p (filter q ns) ≡ filter q (filter p ns)
-filter-swap p q ns = filter-filter p q ns ∙ (filter_same (λ n. q n && p n) (λ n. p n && q n) (λ n. and_comm (q n) (p n)) ns ∙ sym (filter-filter q p ns))
-
--- a turn takes a user's batch rows away, and a send adds what it owes by mail
-pub batch_rows-append : (j : List Stamped) (s : Stamped) (u : UserId) → batch_rows (j ++ s ∷ []) u ≡ filter (λ n. not (is_turn s n)) (batch_rows j u) ++ filter (is_mail_of u) (owed_by (occurrence j s))
+-- after an event a batch row is a waiting mail notice that is ready then; what the event owes is no batch row yet
+pub batch_rows-append : (j : List Stamped) (s : Stamped) (u : UserId) → batch_rows (j ++ s ∷ []) u ≡ filter (λ n. is_mail_of u n && same_account (moved j s n (account_of j n)) Ready) (notices j)
 batch_rows-append j s u =
-    let kept = λ (n : Notice). not (is_turn s n) in
-    batch_rows-waiting (j ++ s ∷ []) u
-    ∙ (ap (filter (is_mail_of u)) (waiting-append j s)
-    ∙ (filter-append (is_mail_of u) (filter kept (waiting j)) (owed_by (occurrence j s))
-    ∙ ap (λ ns. ns ++ filter (is_mail_of u) (owed_by (occurrence j s))) (filter-swap (is_mail_of u) kept (waiting j) ∙ ap (filter kept) (sym (batch_rows-waiting j u)))))
+    let later = is_ready_mail_of (j ++ s ∷ []) u in
+    batch_rows-ready (j ++ s ∷ []) u
+    ∙ (ap (filter later) (notices-append j s)
+    ∙ (filter-append later (notices j) (owed_by (occurrence j s))
+    ∙ (ap (λ ns. filter later (notices j) ++ ns) (none (owed_by (occurrence j s)) (owed_by-each (occurrence j s)))
+    ∙ (append-nil (filter later (notices j))
+    ∙ filter_same_where (λ n. n.owing.place < length j) later (λ n. is_mail_of u n && same_account (moved j s n (account_of j n)) Ready)
+    (λ n placed. ap (λ a. is_mail_of u n && same_account a Ready) (account_of-append j s n placed)) (notices j) (notices-placed j)))))
+  where
+    none : (ns : List Notice) → AllByRecursion (IsOwedBy (occurrence j s)) ns → filter (is_ready_mail_of (j ++ s ∷ []) u) ns ≡ []
+    none [] all = refl
+    none (n ∷ ns) all =
+        ap (λ b. cond b (n ∷ filter (is_ready_mail_of (j ++ s ∷ []) u) ns) (filter (is_ready_mail_of (j ++ s ∷ []) u) ns)) (ap (λ a. is_mail_of u n && same_account a Ready) (account_of-new j s n all.0) ∙ and-false (is_mail_of u n))
+        ∙ none ns all.1
 
--- a user's due moment is that of the first batch row
-pub due-batch_rows : (j : List Stamped) (u : UserId) → due j u ≡ option_map (λ (n : Notice). n.owing.at + (settings j u).period) (first_of (batch_rows j u))
-due-batch_rows j u =
-    due-waiting j u
-    ∙ ap (option_map (λ (n : Notice). n.owing.at + (settings j u).period)) (sym (find-filter (is_mail_of u) (waiting j)) ∙ ap first_of (sym (batch_rows-waiting j u)))
+-- the stamp of a notice's ready event, with one more event
+pub ready_stamp-append : (j : List Stamped) (s : Stamped) (n : Notice) → n.owing.place < length j → ready_stamp (j ++ s ∷ []) n ≡ option_or (ready_stamp j n) (cond (is_readying s n && not (was_cleared j n)) (Some s.at) None)
+ready_stamp-append j s n placed = ap (option_map (λ o. o.at)) (ready-append j s n placed) ∙ by (ready j n) (is_readying s n && not (was_cleared j n))
+  where
+    by : (r : Option Occurrence) (b : Bool) → option_map (λ o. o.at) (option_or r (cond b (Some (occurrence j s)) None)) ≡ option_or (option_map (λ o. o.at) r) (cond b (Some s.at) None)
+    by None true = refl
+    by None false = refl
+    by (Some o) b = refl
 
-pub due-append : (j : List Stamped) (s : Stamped) (u : UserId) → due (j ++ s ∷ []) u ≡ option_map (λ (n : Notice). n.owing.at + (settings (j ++ s ∷ []) u).period) (first_of (filter (λ n. not (is_turn s n)) (batch_rows j u) ++ filter (is_mail_of u) (owed_by (occurrence j s))))
-due-append j s u =
-    due-batch_rows (j ++ s ∷ []) u ∙ ap (λ ns. option_map (λ (n : Notice). n.owing.at + (settings (j ++ s ∷ []) u).period) (first_of ns)) (batch_rows-append j s u)
+-- the stamp at which a pending notice is ready after an event, by the stage and the stamp before it
+abbrev pub stamp_by : Bool → ℕ → Stage → Option ℕ → Option ℕ
+stamp_by readies at stage.Ready before = before
+stamp_by readies at _ before = if readies then Some at else None
+
+pub ready_stamp-stage : (j : List Stamped) (s : Stamped) (n : Notice) (g : Stage) → n.owing.place < length j → stage_of (account_of j n) ≡ Some g → ready_stamp (j ++ s ∷ []) n ≡ stamp_by (is_readying s n) s.at g (ready_stamp j n)
+ready_stamp-stage j s n g placed at_stage =
+    ready_stamp-append j s n placed
+    ∙ by (turn j n) (ready j n) (was_cleared j n) (was_dealt j n) (is_readying s n) (sym (ap stage_of (account_of-plain j n)) ∙ at_stage)
+  where
+    was_decided : (b : Bool) → stage_of (if b then Handed else Cancelled SwitchedOff) ≡ Some g → ⊥
+    was_decided true e = cc
+    was_decided false e = cc
+
+    by : (t r : Option Occurrence) (c d rd : Bool) → stage_of (account_by (option_map (decided n) t) None (is_some r) c d) ≡ Some g → option_or (option_map (λ o. o.at) r) (cond (rd && not c) (Some s.at) None) ≡ stamp_by rd s.at g (option_map (λ o. o.at) r)
+    by (Some x) r c d rd e = absurd (was_decided (switch_on x.past n.user n.way) e)
+    by None (Some o) c d rd e = let same : stage.Ready ≡ g = cc in ap (λ h. stamp_by rd s.at h (Some o.at)) same
+    by None None true d rd e = absurd (cc)
+    by None None false true true e = let same : stage.Held ≡ g = cc in ap (λ h. stamp_by true s.at h None) same
+    by None None false true false e = let same : stage.Held ≡ g = cc in ap (λ h. stamp_by false s.at h None) same
+    by None None false false true e = let same : stage.Flight ≡ g = cc in ap (λ h. stamp_by true s.at h None) same
+    by None None false false false e = let same : stage.Flight ≡ g = cc in ap (λ h. stamp_by false s.at h None) same
 
 -- the least due moment is sought among the users of the journal and one that the event may add
 pub first_due-append : (j : List Stamped) (s : Stamped) → first_due (j ++ s ∷ []) ≡ reduce sooner (filter_map (due_user (j ++ s ∷ [])) (users j ++ option_to_list (added_user j s)))
 unfolding first_due
 first_due-append j s = ap (λ us. reduce sooner (filter_map (due_user (j ++ s ∷ [])) us)) (users-append j s)
-
--- ---- counts
-
--- the counts where so many notices wait, the outbox has so many entries and so many notices were switched off
-abbrev pub counted : ℕ → ℕ → ℕ → Counts
-counted waiting entries off = record {
-  flight = 0;
-  held = 0;
-  ready = in_64_bits waiting;
-  handed = in_64_bits entries;
-  read = 0;
-  deleted = 0;
-  off = in_64_bits off;
-  live = 0;
-  entries = in_64_bits entries;
-  waiting = 0;
-  written = 0;
-}
-
-pub counts_of-append : (j : List Stamped) (s : Stamped) → counts_of (j ++ s ∷ []) ≡ counted (length (filter (λ n. not (is_turn s n)) (waiting j)) + length (owed_by (occurrence j s))) (length (outbox j) + length (entries_by j s.at s.event)) (switched_off (j ++ s ∷ []))
-counts_of-append j s =
-    let off = switched_off (j ++ s ∷ []) in
-    counts_of-waiting (j ++ s ∷ [])
-    ∙ (ap (λ n. counted n (length (outbox (j ++ s ∷ []))) off) (ap length (waiting-append j s) ∙ length-append (filter (λ n. not (is_turn s n)) (waiting j)) (owed_by (occurrence j s)))
-    ∙ ap (λ n. counted (length (filter (λ n. not (is_turn s n)) (waiting j)) + length (owed_by (occurrence j s))) n off) (ap length (outbox-append j s) ∙ length-append (outbox j) (entries_by j s.at s.event)))
 
 -- ---- members and subscribers
 

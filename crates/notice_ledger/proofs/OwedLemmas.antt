@@ -8,6 +8,7 @@ use Rattle.std.proofs.lemmas.Grind.{flat_map-append}
 use Rattle.chat_model.specs.declared.event.Stamped.{Stamped}
 use Rattle.chat_model.specs.declared.ids.UserId.{UserId}
 use Rattle.chat_model.specs.declared.ids.MessageId.{MessageId}
+use Rattle.chat_model.specs.declared.ids.DealNo.{DealNo}
 use Rattle.chat_model.specs.declared.mentions.UserName.{UserName}
 use Rattle.chat_model.specs.declared.trigger.Trigger.{Trigger}
 use Rattle.chat_model.specs.declared.trigger.Way.{Way}
@@ -18,7 +19,7 @@ use Rattle.chat_model.specs.Triggers.{trigger_of}
 use Rattle.notice_ledger.specs.Past.Journal.{occurrence}
 use Rattle.notice_ledger.specs.Past.Values.{numbered, Person, people, named_from, user_names, users, is_bot, messages, deal_count, SentMessage, settings, has_muted}
 use Rattle.notice_ledger.specs.Past.Triggers.{goes_to, is_direct, mentions_of, is_participant_of, policy_for, specific_for, facts_of, trigger, came_by}
-use Rattle.notice_ledger.specs.Past.Owed.{Notice, notice_of, owed_of}
+use Rattle.notice_ledger.specs.Past.Owed.{Notice, same_way, notice_of, owed_of}
 use Rattle.notice_ledger.specs.Plain.{owed_kept, is_mentioned_in, facts_heard, owed_to, owed_to_all}
 
 -- ---- lists
@@ -60,9 +61,9 @@ both_added owed f = append_assoc owed (option_to_list (f Mail)) (option_to_list 
     by (Some x) (Some y) = refl
 
 -- one more user
-pub owed_to_all-more : (past : List Stamped) (at : ℕ) (m : Heard) (names : List UserName) (name : UserName) → owed_to_all past at m names ++ filter_map (owed_to past at m name.id) (Mail ∷ Push ∷ []) ≡ owed_to_all past at m (names ++ name ∷ [])
-owed_to_all-more past at m names name =
-    let each = λ (u : UserName). filter_map (owed_to past at m u.id) (Mail ∷ Push ∷ []) in
+pub owed_to_all-more : (past : List Stamped) (m : Heard) (names : List UserName) (name : UserName) → owed_to_all past m names ++ filter_map (owed_to past m name.id) (Mail ∷ Push ∷ []) ≡ owed_to_all past m (names ++ name ∷ [])
+owed_to_all-more past m names name =
+    let each = λ (u : UserName). filter_map (owed_to past m u.id) (Mail ∷ Push ∷ []) in
     sym (flat_map-append each names (name ∷ []) ∙ ap (λ ns. flat_map each names ++ ns) (append-nil (each name)))
 
 -- ---- a message
@@ -77,6 +78,7 @@ ids-user_names j = ids_from 1 (people j)
 -- what was heard of the message that is sent behind these events
 pub record IsHeard (j : List Stamped) (text : List ℕ) (h : Heard) : Type 0 where
   pub number : h.number.0 ≡ length (messages j) + 1
+  pub deal : h.deal.0 ≡ deal_count j
   pub mentioned : h.mentioned ≡ mentions_of j text
   pub bots : h.bots.items ≡ map (λ (p : Person). p.bot) (people j)
 
@@ -115,7 +117,11 @@ module _ (j : List Stamped) (s : Stamped) (h : Heard) (text : List ℕ) (heard :
   number_heard : let n : MessageId = record { 0 = length (messages j) + 1 } in h.number ≡ n
   number_heard = ap (λ k. let n : MessageId = record { 0 = k } in n) heard.number
 
-  owed_heard : (u : UserId) (w : Way) → option_map owed_kept (notice_of (occurrence j s) (message_heard j h text) u w) ≡ owed_to j s.at h u w
+  deal_heard : let k : DealNo = record { 0 = deal_count j } in h.deal ≡ k
+  deal_heard = ap (λ n. let k : DealNo = record { 0 = n } in k) heard.deal
+
+  owed_heard : (u : UserId) (w : Way) → option_map owed_kept (notice_of (occurrence j s) (message_heard j h text) u w) ≡ owed_to j h u w
+  unfolding facts_heard
   owed_heard u w =
       ap (λ t. option_map owed_kept (of_trigger t)) (trigger_heard u w) ∙ by (trigger_of (facts_heard j h u) w)
     where
@@ -131,15 +137,15 @@ module _ (j : List Stamped) (s : Stamped) (h : Heard) (text : List ℕ) (heard :
         owing = occurrence j s;
       } in n) t
 
-      by : (t : Option Trigger) → option_map owed_kept (of_trigger t) ≡ (if is_some t then Some (record { user = u; message = h.number; way = w; place = length j; at = s.at }) else None)
-      by (Some t) = ap (λ (n : MessageId). let o : Owed = record { user = u; message = n; way = w; place = length j; at = s.at } in Some o) (sym number_heard)
+      by : (t : Option Trigger) → option_map owed_kept (of_trigger t) ≡ (if is_some t then Some (record { user = u; message = h.number; way = w; deal = h.deal; online = same_way w Push && (settings j u).push_online; place = length j }) else None)
+      by (Some t) = λ i. Some (record { user = u; message = sym number_heard i; way = w; deal = sym deal_heard i; online = same_way w Push && (settings j u).push_online; place = length j })
       by None = refl
 
   -- what the send of the message owes
-  pub owed_of_heard : map owed_kept (owed_of (occurrence j s) (message_heard j h text)) ≡ owed_to_all j s.at h (user_names j)
+  pub owed_of_heard : map owed_kept (owed_of (occurrence j s) (message_heard j h text)) ≡ owed_to_all j h (user_names j)
   owed_of_heard =
       let o = occurrence j s in let m = message_heard j h text in
       let to_user = λ (u : UserId). filter_map (notice_of o m u) (Mail ∷ Push ∷ []) in
-      let heard_by = λ (name : UserName). filter_map (owed_to j s.at h name.id) (Mail ∷ Push ∷ []) in
+      let heard_by = λ (name : UserName). filter_map (owed_to j h name.id) (Mail ∷ Push ∷ []) in
       ap (λ us. map owed_kept (flat_map to_user us)) (sym (ids-user_names j))
-      ∙ map-flat_map owed_kept to_user (λ (u : UserName). u.id) heard_by (λ name. map-filter_map owed_kept (notice_of o m name.id) (owed_to j s.at h name.id) (owed_heard name.id) (Mail ∷ Push ∷ [])) (user_names j)
+      ∙ map-flat_map owed_kept to_user (λ (u : UserName). u.id) heard_by (λ name. map-filter_map owed_kept (notice_of o m name.id) (owed_to j h name.id) (owed_heard name.id) (Mail ∷ Push ∷ [])) (user_names j)

@@ -113,7 +113,7 @@ is_key_of-itself n =
     ap (λ b. b && n.number.0 == n.number.0 && same_way n.way n.way) (eq-eqb n.user.0 n.user.0 refl)
     ∙ (ap (λ b. b && same_way n.way n.way) (eq-eqb n.number.0 n.number.0 refl) ∙ same_way-itself n.way)
 
-keys_differ : (a b : Notice) → Differ a b → is_eq (key_cmp (notice_key a) (notice_key b)) ≡ false
+pub keys_differ : (a b : Notice) → Differ a b → is_eq (key_cmp (notice_key a) (notice_key b)) ≡ false
 keys_differ a b d =
     elim (is_eq (key_cmp (notice_key a) (notice_key b))) as (λ t. is_eq (key_cmp (notice_key a) (notice_key b)) ≡ t → t ≡ false) [
       | true ↦ λ e. sym (is_key_of-itself a) ∙ (ap (is_key_of a) (same_key (notice_key a) (notice_key b) (equal_from (key_cmp (notice_key a) (notice_key b)) e)) ∙ d)
@@ -128,7 +128,7 @@ pending_row-key j n r e = by (stage_of (account_of j n)) e
     by None h = absurd (cc)
     by (Some s) h = let same : r ≡ row.Pending n.user n.number n.way n.trigger n.deal s = cc in ap key_of same
 
-pending_apart : (j : List Stamped) → Pairwise Apart (filter_map (pending_row j) (notices j))
+pub pending_apart : (j : List Stamped) → Pairwise Apart (filter_map (pending_row j) (notices j))
 pending_apart j = Pairwise-filter_map Differ Apart (pending_row j) (λ x y a b d ex ey.
     ap (λ k. is_eq (key_cmp k (key_of b))) (pending_row-key j x a ex) ∙ (ap (λ k. is_eq (key_cmp (notice_key x) k)) (pending_row-key j y b ey) ∙ keys_differ x y d)) (notices j) (notices-apart j)
 

@@ -1,6 +1,6 @@
 -- Each notice is of a message of the journal, and each message makes a deal.
 use Rattle.std.proofs.Common.{◌≡◌, ℕ, zero, suc, ◌+◌, Bool, false, ◌&&◌, ◌||◌, ◌==◌, List, [], ◌∷◌, ◌++◌, length, refl, sym, ap, ◌∙◌, subst, add-one, length-append}
-use Rattle.std.specs.Prelude.{Option, Some, None, option_map, option_to_list, slice_get, cond, is_none, is_some, MatchOption}
+use Rattle.std.specs.Prelude.{Option, Some, None, option_map, option_to_list, slice_get, cond, is_some, MatchOption}
 use Rattle.std.specs.Option.{option_map_or}
 use Rattle.std.specs.List.{AllByRecursion, filter_map, list_any, cons_option}
 use Rattle.chat_model.specs.declared.event.Stamped.{Stamped}
@@ -13,10 +13,9 @@ use Rattle.chat_model.specs.declared.trigger.Trigger.{Trigger}
 use Rattle.notice_ledger.specs.Past.Journal.{Occurrence, occurrence, occurrences, occurrences_after}
 use Rattle.notice_ledger.specs.Past.Values.{numbered, SentMessage, Sending, sending_of, sent_by, message_of, messages, users, makes_deal, deal_count, is_to_topic, is_participant}
 use Rattle.notice_ledger.specs.Past.Triggers.{trigger, came_by}
-use Rattle.notice_ledger.specs.Past.Owed.{Notice, notice_of, owed_of, owed_by, notices, turn, waiting}
-use Rattle.notice_ledger.proofs.Lists.{AllByRecursion-append, AllByRecursion-weaker, AllByRecursion-filter_map, AllByRecursion-flat_map, by_appending}
+use Rattle.notice_ledger.specs.Past.Owed.{Notice, notice_of, owed_of, owed_by, notices, account_of, is_pending, waiting}
+use Rattle.notice_ledger.proofs.Lists.{AllByRecursion-append, AllByRecursion-weaker, AllByRecursion-filter_map, AllByRecursion-flat_map, by_appending, AllByRecursion-filter}
 use Rattle.notice_ledger.proofs.Appended.{notices-nil, notices-append, messages-nil, messages-append, deal_count-nil, deal_count-append}
-use Rattle.notice_ledger.proofs.Ascending.{AllByRecursion-filter}
 
 -- the notice's message stands at the notice's number
 abbrev pub IsOfMessage : List Stamped → Notice → Type 0
@@ -80,7 +79,7 @@ notices-messages = by_appending (λ j. AllByRecursion (IsOfMessage j) (notices j
 
 pub waiting-messages : (j : List Stamped) → AllByRecursion (IsOfMessage j) (waiting j)
 unfolding waiting
-waiting-messages j = AllByRecursion-filter (IsOfMessage j) (λ n. is_none (turn j n)) (notices j) (notices-messages j)
+waiting-messages j = AllByRecursion-filter (IsOfMessage j) (λ n. is_pending (account_of j n)) (notices j) (notices-messages j)
 
 one_each : (past : List Stamped) (e : Event) → cond (makes_deal e) 1 0 ≡ length (option_to_list (sent_by past e))
 one_each past e = by (sending_of e)

@@ -1,8 +1,8 @@
 -- What the slow computation counts is what the definitions count.
-use Rattle.std.proofs.Common.{◌≡◌, ℕ, ◌+◌, ◌-◌, ◌^◌, min, Bool, true, false, List, [], ◌∷◌, length, map, refl, sym, ap, ◌∙◌, arith}
-use Rattle.std.specs.Prelude.{Option, Some, None, option_map, find, count_by, if◌then◌else◌, cond}
+use Rattle.std.proofs.Common.{◌≡◌, ℕ, ◌+◌, ◌-◌, ◌^◌, min, Bool, true, false, List, [], ◌∷◌, ◌++◌, ◌<◌, length, map, take, get_or, refl, sym, ap, ◌∙◌, arith}
+use Rattle.std.specs.Prelude.{Option, Some, None, option_map, option_and_then, is_some, is_none, find, count_by, if◌then◌else◌, cond}
 use Rattle.std.specs.Option.{option_map_or}
-use Rattle.std.proofs.lemmas.List.{length-map}
+use Rattle.std.proofs.lemmas.List.{length-map, map-append, take_more}
 use Rattle.chat_model.specs.declared.event.Stamped.{Stamped}
 use Rattle.chat_model.specs.declared.ids.UserId.{UserId}
 use Rattle.chat_model.specs.declared.ids.MessageId.{MessageId}
@@ -12,25 +12,27 @@ use Rattle.chat_model.specs.declared.trigger.Way.TheVariants.{Mail}
 use Rattle.notice_ledger.specs.declared.accounts.Account.{Account}
 use Rattle.notice_ledger.specs.declared.accounts.Account.TheVariants.{NotOwed, Flight, Held, Ready, Handed, Cancelled, LiveQueue}
 use Rattle.notice_ledger.specs.declared.owed.Owed.{Owed}
-use Rattle.notice_ledger.specs.Past.Owed.{is_of, notices, switch_on, account}
+use Rattle.notice_ledger.specs.Past.Journal.{Occurrence}
+use Rattle.notice_ledger.specs.Past.Owed.{is_of, notices, bar_cause, switch_on, account_by, account}
 use Rattle.notice_ledger.specs.Past.Due.{batch_rows}
-use Rattle.notice_ledger.specs.Past.Outbox.{by_message, mail_entry, mail_entries, outbox}
+use Rattle.notice_ledger.specs.Past.Outbox.{by_message, mailed, mail_entry, mail_entries, outbox}
 use Rattle.notice_ledger.specs.Past.Audit.{same_account, owed_with, in_64_bits, counts_of}
-use Rattle.notice_ledger.specs.Plain.{owed_kept, account_kept, counts_kept, is_of_kept}
+use Rattle.notice_ledger.specs.Plain.{owed_kept, ready_kept, cleared_kept, dealt_kept, bar_kept, turn_kept, decided_kept, account_kept, counts_kept, is_of_kept}
+use Rattle.notice_ledger.proofs.Standing.{bar_behind-none}
 use Rattle.notice_ledger.proofs.Sums.{sum_by-map}
-use Rattle.notice_ledger.proofs.Batches.{batch_rows-waiting, by_message-batch_rows}
+use Rattle.notice_ledger.proofs.Batches.{batch_rows-waiting, by_message-mailed}
 
 -- a mail turn with the switch on adds an entry for each batch row
 pub turn_entries-on : (j : List Stamped) (at : ℕ) (u : UserId) (rows : List Owed) → switch_on j u Mail ≡ true → rows ≡ map owed_kept (batch_rows j u) → length rows ≡ length (mail_entries j at u)
 turn_entries-on j at u rows on are =
     ap length are
     ∙ (length-map (batch_rows j u) owed_kept
-    ∙ (ap length (batch_rows-waiting j u ∙ sym (by_message-batch_rows j u))
-    ∙ (sym (length-map (by_message (batch_rows j u)) (mail_entry j at))
-    ∙ ap (λ b. length (if b then map (mail_entry j at) (by_message (batch_rows j u)) else [])) (sym on))))
+    ∙ (ap length (batch_rows-waiting j u ∙ sym (by_message-mailed j u))
+    ∙ (sym (length-map (by_message (mailed j u)) (mail_entry j at))
+    ∙ ap (λ b. length (if b then map (mail_entry j at) (by_message (mailed j u)) else [])) (sym on))))
 
 pub turn_entries-off : (j : List Stamped) (at : ℕ) (u : UserId) → switch_on j u Mail ≡ false → 0 ≡ length (mail_entries j at u)
-turn_entries-off j at u off = ap (λ b. length (if b then map (mail_entry j at) (by_message (batch_rows j u)) else [])) (sym off)
+turn_entries-off j at u off = ap (λ b. length (if b then map (mail_entry j at) (by_message (mailed j u)) else [])) (sym off)
 
 -- counts in 64 bits are added in 64 bits
 pub in_64_bits-more : (r n m a b : ℕ) → r ≡ min (n + m) (2 ^ 64 - 1) → m ≡ b → n ≡ in_64_bits a → r ≡ in_64_bits (a + b)
@@ -78,3 +80,27 @@ pub account-found : (j : List Stamped) (u : UserId) (m : MessageId) (w : Way) (f
 account-found j u m w found o are at =
     ap (λ p. option_map_or (account_kept j) p NotOwed) (at ∙ (ap (find (is_of_kept u m w)) are ∙ find-map (is_of_kept u m w) owed_kept (notices j)))
     ∙ or_mapped (account_kept j) owed_kept (find (is_of u m w) (notices j)) NotOwed
+
+-- ---- where a notice stands
+
+-- no event bars the notice, so its account is by its turn, its ready event, its clearing and its deal
+pub account_kept-plain : (j : List Stamped) (n : Owed) → account_kept j n ≡ account_by (option_map (decided_kept n) (turn_kept j n)) None (is_some (ready_kept j n)) (cleared_kept j n) (dealt_kept j n)
+account_kept-plain j n =
+    ap (λ (b : Option Occurrence). account_by (option_and_then (λ t. if is_none (bar_kept t.past n) then Some (decided_kept n t) else None) (turn_kept j n)) (option_and_then (bar_cause n.user n.message n.way) b) (is_some (ready_kept j n)) (cleared_kept j n) (dealt_kept j n)) (bar_behind-none n.place n.user n.message n.way j)
+    ∙ ap (λ t. account_by t None (is_some (ready_kept j n)) (cleared_kept j n) (dealt_kept j n)) (by (turn_kept j n))
+  where
+    by : (t : Option Occurrence) → option_and_then (λ t. if is_none (bar_kept t.past n) then Some (decided_kept n t) else None) t ≡ option_map (decided_kept n) t
+    by None = refl
+    by (Some t) = ap (λ (b : Option Occurrence). if is_none b then Some (decided_kept n t) else None) (bar_behind-none n.place n.user n.message n.way t.past)
+
+-- the notice that stands for none, where a list has none
+abbrev pub nobody : Owed
+nobody = record { user = record { 0 = 0 }; message = record { 0 = 0 }; way = Mail; deal = record { 0 = 0 }; online = false; place = 0 }
+
+-- one more account
+pub accounts-next : (j : List Stamped) (notices : List Owed) (i : ℕ) (accounts : List Account) (account : Account) → i < length notices
+    → accounts ≡ map (account_kept j) (take i notices) → account ≡ account_kept j (get_or notices i nobody) → accounts ++ account ∷ [] ≡ map (account_kept j) (take (i + 1) notices)
+accounts-next j notices i accounts account lt so_far is =
+    ap (λ (before : List Account). before ++ account ∷ []) so_far
+    ∙ (ap (λ (a : Account). map (account_kept j) (take i notices) ++ a ∷ []) is
+    ∙ (sym (map-append (account_kept j) (take i notices) (get_or notices i nobody ∷ [])) ∙ ap (map (account_kept j)) (sym (take_more notices i nobody lt))))

@@ -1,93 +1,27 @@
--- Turns that are found by going through the events, and what is found of batch rows and due moments.
-use Rattle.std.proofs.Common.{◌≡◌, ℕ, ◌+◌, ◌<◌, ◌≤◌, Bool, true, false, ◌&&◌, cond, List, [], ◌∷◌, ◌++◌, length, take, drop, get_or, map, refl, sym, ap, ◌∙◌, arith}
-use Rattle.std.specs.Prelude.{Option, Some, None, option_map, filter, find, is_none, nat_lt, slice_get, if◌then◌else◌}
-use Rattle.std.specs.Option.{option_map_or, option_or}
+-- What the slow computation finds of batch rows and due moments.
+use Rattle.std.proofs.Common.{◌≡◌, ℕ, ◌+◌, Bool, true, false, ◌&&◌, cond, List, [], ◌∷◌, ◌++◌, map, refl, sym, ap, ◌∙◌}
+use Rattle.std.specs.Prelude.{Option, Some, None, option_map, option_and_then, filter, is_none, is_some, nat_lt, if◌then◌else◌}
+use Rattle.std.specs.Option.{option_map_or}
 use Rattle.std.specs.List.{filter_map, reduce, cons_option}
-use Rattle.std.proofs.lemmas.List.{append-nil, append_assoc, length-take-le, take-append-drop, take_all}
-use Rattle.std.proofs.lemmas.List.Folds.{find-append}
+use Rattle.std.proofs.lemmas.List.{append-nil}
 use Rattle.std.proofs.lemmas.List.Sums.{fold-append}
 use Rattle.std.proofs.lemmas.List.Elements.{filter_map-append}
 use Rattle.chat_model.specs.declared.event.Stamped.{Stamped}
 use Rattle.chat_model.specs.declared.ids.UserId.{UserId}
 use Rattle.chat_model.specs.declared.mentions.UserName.{UserName}
-use Rattle.chat_model.specs.declared.row.Cause.TheVariants.{SwitchedOff}
-use Rattle.notice_ledger.specs.declared.accounts.Account.TheVariants.{Ready, Handed, Cancelled}
 use Rattle.notice_ledger.specs.declared.owed.Owed.{Owed}
 use Rattle.notice_ledger.specs.declared.due.DueUser.{DueUser as FoundDue}
-use Rattle.notice_ledger.specs.Past.Journal.{Occurrence, occurrence, occurrences, occurrences_after, first_behind}
+use Rattle.notice_ledger.specs.declared.readiness.Spot.{Spot}
+use Rattle.notice_ledger.specs.Past.Journal.{Occurrence, first_behind}
 use Rattle.notice_ledger.specs.Past.Values.{settings, user_names}
-use Rattle.notice_ledger.specs.Past.Audit.{same_account}
 use Rattle.notice_ledger.proofs.OwedLemmas.{ids-user_names}
-use Rattle.notice_ledger.specs.Past.Owed.{Notice, notices, turn, is_turn_of, switch_on, waiting}
-use Rattle.notice_ledger.specs.Past.Due.{DueUser, batch_rows, due, due_user, first_due, sooner}
-use Rattle.notice_ledger.specs.Plain.{owed_kept, turn_kept, account_kept, is_batch_kept, found_due}
-use Rattle.notice_ledger.proofs.Lists.{find-filter, first_of, take_next}
-use Rattle.notice_ledger.proofs.Appended.{first_behind-append}
-use Rattle.notice_ledger.proofs.Batches.{is_mail_of, batch_rows-waiting, due-waiting}
+use Rattle.notice_ledger.specs.Past.Owed.{Notice, notices, ready, is_unbarred, is_turn_of, turn}
+use Rattle.notice_ledger.specs.Past.Due.{DueUser, is_batch_row, batch_rows, due, due_user, earlier, first_due, sooner}
+use Rattle.notice_ledger.specs.Plain.{owed_kept, ready_kept, turn_kept, decided_kept, is_batch_kept, found_due, spot_of, earlier_spot}
+use Rattle.notice_ledger.proofs.Batches.{is_mail_of, filter_same}
+use Rattle.notice_ledger.proofs.Standing.{bar-none}
 
--- ---- the first event behind a place
-
-occurrences_after-more : (past j k : List Stamped) → occurrences_after past (j ++ k) ≡ occurrences_after past j ++ occurrences_after (past ++ j) k
-occurrences_after-more past [] k = ap (λ p. occurrences_after p k) (sym (append-nil past))
-occurrences_after-more past (s ∷ j) k =
-    ap (λ os. occurrence past s ∷ os) (occurrences_after-more (past ++ s ∷ []) j k ∙ ap (λ p. occurrences_after (past ++ s ∷ []) j ++ occurrences_after p k) (append_assoc past (s ∷ []) j))
-
-found_or : {A : Type 0} (o : Option A) (p : Option A) (a : A) → o ≡ Some a → option_or o p ≡ Some a
-found_or o p a e = ap (λ q. option_or q p) e
-
--- what is found stays found when more events come
-first_behind-front : (place : ℕ) (test : Occurrence → Bool) (j k : List Stamped) (o : Occurrence) → first_behind place test j ≡ Some o → first_behind place test (j ++ k) ≡ Some o
-unfolding occurrences
-first_behind-front place test j k o e =
-    ap (find (λ o. nat_lt place o.place && test o)) (occurrences_after-more [] j k)
-    ∙ (find-append (λ o. nat_lt place o.place && test o) (occurrences_after [] j) (occurrences_after j k)
-    ∙ found_or (find (λ o. nat_lt place o.place && test o) (occurrences_after [] j)) (find (λ o. nat_lt place o.place && test o) (occurrences_after j k)) o e)
-
--- ---- the turn of a notice
-
--- the event at a place is a turn of the notice
-abbrev turns : Owed → ℕ → Stamped → Bool
-turns n place s = nat_lt n.place place && is_turn_of n.user n.way s.event
-
-one_more_turn : (j : List Stamped) (s : Stamped) (n : Owed) → turn_kept j n ≡ None → turn_kept (j ++ s ∷ []) n ≡ cond (turns n (length j) s) (Some (occurrence j s)) None
-one_more_turn j s n none =
-    first_behind-append n.place (λ o. is_turn_of n.user n.way o.event) j s ∙ ap (λ o. option_or o (cond (turns n (length j) s) (Some (occurrence j s)) None)) none
-
-pub no_turn-more : (j : List Stamped) (s : Stamped) (n : Owed) → turn_kept j n ≡ None → turns n (length j) s ≡ false → turn_kept (j ++ s ∷ []) n ≡ None
-no_turn-more j s n none other = one_more_turn j s n none ∙ ap (λ b. cond b (Some (occurrence j s)) None) other
-
-pub account-found : (j k : List Stamped) (s : Stamped) (n : Owed) → turn_kept j n ≡ None → turns n (length j) s ≡ true → account_kept ((j ++ s ∷ []) ++ k) n ≡ (if switch_on j n.user n.way then Handed else Cancelled SwitchedOff)
-account-found j k s n none turn =
-    ap (λ o. option_map_or (λ t. if switch_on t.past n.user n.way then Handed else Cancelled SwitchedOff) o Ready)
-    (first_behind-front n.place (λ o. is_turn_of n.user n.way o.event) (j ++ s ∷ []) k (occurrence j s) (one_more_turn j s n none ∙ ap (λ b. cond b (Some (occurrence j s)) None) turn))
-
-pub no_turn-next : (j : List Stamped) (i : ℕ) (s : Stamped) (n : Owed) → i < length j → s ≡ get_or j i s → turn_kept (take i j) n ≡ None → turns n i s ≡ false → turn_kept (take (i + 1) j) n ≡ None
-no_turn-next j i s n lt at none other =
-    ap (λ k. turn_kept k n) (take_next j i s lt at)
-    ∙ no_turn-more (take i j) s n none (ap (λ m. turns n m s) (length-take-le i j (omega arith)) ∙ other)
-
-pub account-next : (j : List Stamped) (i : ℕ) (s : Stamped) (n : Owed) → i < length j → s ≡ get_or j i s → turn_kept (take i j) n ≡ None → turns n i s ≡ true → account_kept j n ≡ (if switch_on (take i j) n.user n.way then Handed else Cancelled SwitchedOff)
-account-next j i s n lt at none turn =
-    ap (λ k. account_kept k n) (sym (take-append-drop (i + 1) j) ∙ ap (λ k. k ++ drop (i + 1) j) (take_next j i s lt at))
-    ∙ account-found (take i j) (drop (i + 1) j) s n none (ap (λ m. turns n m s) (length-take-le i j (omega arith)) ∙ turn)
-
-pub account-waiting : (j : List Stamped) (i : ℕ) (n : Owed) → length j ≤ i → turn_kept (take i j) n ≡ None → Ready ≡ account_kept j n
-account-waiting j i n le none =
-    sym (ap (λ o. option_map_or (λ t. if switch_on t.past n.user n.way then Handed else Cancelled SwitchedOff) o Ready) (ap (λ k. turn_kept k n) (sym (take_all i j le)) ∙ none))
-
--- a notice is ready where it had no turn
-pub ready-waiting : (j : List Stamped) (n : Owed) → same_account (account_kept j n) Ready ≡ is_none (turn_kept j n)
-ready-waiting j n = by (turn_kept j n)
-  where
-    decided_one : (b : Bool) → same_account (if b then Handed else Cancelled SwitchedOff) Ready ≡ false
-    decided_one true = refl
-    decided_one false = refl
-
-    by : (o : Option Occurrence) → same_account (option_map_or (λ t. if switch_on t.past n.user n.way then Handed else Cancelled SwitchedOff) o Ready) Ready ≡ is_none o
-    by None = refl
-    by (Some t) = decided_one (switch_on t.past n.user n.way)
-
--- ---- batch rows and due moments
+-- ---- batch rows
 
 filter-map : {A B : Type 0} (p : B → Bool) (f : A → B) (xs : List A) → filter p (map f xs) ≡ map f (filter (λ x. p (f x)) xs)
 filter-map p f [] = refl
@@ -98,31 +32,25 @@ filter-map p f (x ∷ xs) =
     ]
 
 pub batch_rows-kept : (j : List Stamped) (u : UserId) → filter (is_batch_kept j u) (map owed_kept (notices j)) ≡ map owed_kept (batch_rows j u)
-batch_rows-kept j u = filter-map (is_batch_kept j u) owed_kept (notices j)
+batch_rows-kept j u =
+    filter-map (is_batch_kept j u) owed_kept (notices j)
+    ∙ ap (map owed_kept) (filter_same (λ n. is_batch_kept j u (owed_kept n)) (is_batch_row j u) (λ n. ap (λ b. is_mail_of u n && (b && is_none (turn j n))) (sym (unbarred n (ready j n)))) (notices j))
+  where
+    unbarred : (n : Notice) (r : Option Occurrence) → option_map_or (is_unbarred n) r false ≡ is_some r
+    unbarred n None = refl
+    unbarred n (Some o) = ap (λ (b : Option Occurrence). is_none b) (bar-none o.past n)
 
-first-map : {A B : Type 0} (f : A → B) (xs : List A) → first_of (map f xs) ≡ option_map f (first_of xs)
-first-map f [] = refl
-first-map f (x ∷ xs) = refl
+-- ---- turns
 
-map-twice : {A B C : Type 0} (f : B → C) (g : A → B) (o : Option A) → option_map f (option_map g o) ≡ option_map (λ x. f (g x)) o
-map-twice f g None = refl
-map-twice f g (Some x) = refl
+-- what the turn decided is what the first one behind the ready event decided
+pub decision-ready : (j : List Stamped) (n : Owed) (spot : Spot) → Some spot ≡ option_map spot_of (ready_kept j n) → option_map (decided_kept n) (first_behind spot.place (λ o. is_turn_of n.user n.way o.event) j) ≡ option_map (decided_kept n) (turn_kept j n)
+decision-ready j n spot found = by (ready_kept j n) found
+  where
+    by : (r : Option Occurrence) → Some spot ≡ option_map spot_of r → option_map (decided_kept n) (first_behind spot.place (λ o. is_turn_of n.user n.way o.event) j) ≡ option_map (decided_kept n) (option_and_then (λ r. first_behind r.place (λ o. is_turn_of n.user n.way o.event) j) r)
+    by None e = absurd (cc)
+    by (Some o) e = let same : spot ≡ spot_of o = cc in ap (λ (t : Spot). option_map (decided_kept n) (first_behind t.place (λ o. is_turn_of n.user n.way o.event) j)) same
 
-at_first : {A : Type 0} (xs : List A) → slice_get xs 0 ≡ first_of xs
-at_first [] = refl
-at_first (x ∷ xs) = refl
-
--- a user's due moment is that of the first batch row
-pub due-first : (j : List Stamped) (u : UserId) (rows : List Owed) → rows ≡ map owed_kept (batch_rows j u) → option_map (λ (n : Owed). n.at + (settings j u).period) (slice_get rows 0) ≡ due j u
-due-first j u rows are =
-    ap (option_map (λ (n : Owed). n.at + (settings j u).period)) (at_first rows)
-    ∙ (ap (λ ns. option_map (λ (n : Owed). n.at + (settings j u).period) (first_of ns)) are
-    ∙ (ap (option_map (λ (n : Owed). n.at + (settings j u).period)) (first-map owed_kept (batch_rows j u))
-    ∙ (map-twice (λ (n : Owed). n.at + (settings j u).period) owed_kept (first_of (batch_rows j u))
-    ∙ (ap (λ ns. option_map (λ (n : Notice). n.owing.at + (settings j u).period) (first_of ns)) (batch_rows-waiting j u)
-    ∙ (ap (option_map (λ (n : Notice). n.owing.at + (settings j u).period)) (find-filter (is_mail_of u) (waiting j)) ∙ sym (due-waiting j u))))))
-
--- ---- the least due moment
+-- ---- the first ready event
 
 reduce-push : {A : Type 0} (f : A → A → A) (xs : List A) (x : A) → reduce f (xs ++ x ∷ []) ≡ Some (option_map_or (λ a. f a x) (reduce f xs) x)
 reduce-push f [] x = refl
@@ -134,6 +62,59 @@ filter_map-push h xs x = filter_map-append h xs (x ∷ [])
 or_mapped : {A B C : Type 0} (f : B → C) (g : A → B) (o : Option A) (d : C) → option_map_or (λ a. f (g a)) o d ≡ option_map_or f (option_map g o) d
 or_mapped f g None d = refl
 or_mapped f g (Some x) d = refl
+
+earlier-spot : (a b : Occurrence) → spot_of (earlier a b) ≡ earlier_spot (spot_of a) (spot_of b)
+earlier-spot a b =
+    elim (nat_lt b.place a.place) as (λ t. spot_of (if t then b else a) ≡ (if t then spot_of b else spot_of a)) [
+      | true ↦ refl
+      | false ↦ refl
+    ]
+
+-- the first of the ready events of these notices
+abbrev pub first_ready : List Stamped → List Owed → Option Spot
+first_ready j rows = option_map spot_of (reduce earlier (filter_map (ready_kept j) rows))
+
+pub one_more_ready : (j : List Stamped) (rows : List Owed) (row : Owed) (before : Option Spot) (spot next : Spot) → Some spot ≡ option_map spot_of (ready_kept j row)
+    → before ≡ first_ready j rows → next ≡ option_map_or (λ a. earlier_spot a spot) before spot → Some next ≡ first_ready j (rows ++ row ∷ [])
+one_more_ready j rows row before spot next found so_far is =
+    by (ready_kept j row) found
+    ∙ ap (λ os. option_map spot_of (reduce earlier os)) (sym (filter_map-push (ready_kept j) rows row))
+  where
+    seen : (o : Occurrence) (b : Option Occurrence) → option_map_or (λ a. earlier_spot a (spot_of o)) (option_map spot_of b) (spot_of o) ≡ spot_of (option_map_or (λ a. earlier a o) b o)
+    seen o None = refl
+    seen o (Some a) = sym (earlier-spot a o)
+
+    by : (r : Option Occurrence) → Some spot ≡ option_map spot_of r → Some next ≡ option_map spot_of (reduce earlier (filter_map (ready_kept j) rows ++ cons_option r []))
+    by None e = absurd (cc)
+    by (Some o) e =
+        let same : spot ≡ spot_of o = cc in
+        ap Some (is ∙ (ap (λ b. option_map_or (λ a. earlier_spot a spot) b spot) so_far ∙ (ap (λ (t : Spot). option_map_or (λ a. earlier_spot a t) (first_ready j rows) t) same ∙ seen o (reduce earlier (filter_map (ready_kept j) rows)))))
+        ∙ ap (option_map spot_of) (sym (reduce-push earlier (filter_map (ready_kept j) rows) o))
+
+pub one_more_not_ready : (j : List Stamped) (rows : List Owed) (row : Owed) → None ≡ option_map spot_of (ready_kept j row) → first_ready j (rows ++ row ∷ []) ≡ first_ready j rows
+one_more_not_ready j rows row none =
+    ap (λ os. option_map spot_of (reduce earlier os)) (filter_map-push (ready_kept j) rows row ∙ (ap (λ o. filter_map (ready_kept j) rows ++ cons_option o []) (by (ready_kept j row) none) ∙ append-nil (filter_map (ready_kept j) rows)))
+  where
+    by : (r : Option Occurrence) → None ≡ option_map spot_of r → r ≡ None
+    by None e = refl
+    by (Some o) e = absurd (cc)
+
+map-twice : {A B C : Type 0} (f : B → C) (g : A → B) (o : Option A) → option_map f (option_map g o) ≡ option_map (λ x. f (g x)) o
+map-twice f g None = refl
+map-twice f g (Some x) = refl
+
+filter_map-map : {A B C : Type 0} (h : B → Option C) (f : A → B) (xs : List A) → filter_map h (map f xs) ≡ filter_map (λ x. h (f x)) xs
+filter_map-map h f [] = refl
+filter_map-map h f (x ∷ xs) = ap (cons_option (h (f x))) (filter_map-map h f xs)
+
+-- a user's due moment is that of the first ready event of the batch rows
+pub due-first : (j : List Stamped) (u : UserId) (rows : List Owed) → rows ≡ map owed_kept (batch_rows j u) → option_map (λ (s : Spot). s.at + (settings j u).period) (first_ready j rows) ≡ due j u
+due-first j u rows are =
+    ap (λ ns. option_map (λ (s : Spot). s.at + (settings j u).period) (first_ready j ns)) are
+    ∙ (map-twice (λ (s : Spot). s.at + (settings j u).period) spot_of (reduce earlier (filter_map (ready_kept j) (map owed_kept (batch_rows j u))))
+    ∙ ap (λ os. option_map (λ (o : Occurrence). o.at + (settings j u).period) (reduce earlier os)) (filter_map-map (ready_kept j) owed_kept (batch_rows j u)))
+
+-- ---- the least due moment
 
 -- the users with their due moments
 abbrev pub due_named : List Stamped → UserName → Option DueUser
@@ -155,10 +136,6 @@ one_more_not_due j names name not_due =
     filter_map-push (due_named j) names name
     ∙ (ap (λ (o : Option ℕ). filter_map (due_named j) names ++ cons_option (option_map (λ e. let u : DueUser = record { due = e; user = name.id } in u) o) []) (sym not_due)
     ∙ append-nil (filter_map (due_named j) names))
-
-filter_map-map : {A B C : Type 0} (h : B → Option C) (f : A → B) (xs : List A) → filter_map h (map f xs) ≡ filter_map (λ x. h (f x)) xs
-filter_map-map h f [] = refl
-filter_map-map h f (x ∷ xs) = ap (cons_option (h (f x))) (filter_map-map h f xs)
 
 pub first_due-named : (j : List Stamped) (names : List UserName) → names ≡ user_names j → reduce sooner (filter_map (due_named j) names) ≡ first_due j
 unfolding first_due

@@ -13,6 +13,7 @@ use Rattle.notice_ledger.specs.declared.accounts.Account.{Account}
 use Rattle.notice_ledger.specs.declared.accounts.Account.TheVariants.{NotOwed}
 use Rattle.notice_ledger.specs.Past.Owed.{same_way, is_cancelled}
 use Rattle.notice_ledger.specs.Owed.{account}
+use Rattle.notice_ledger.specs.Rows as any
 
 -- a row is the pending row of a notice
 abbrev pub is_pending_row : UserId → MessageId → Way → Row → Bool
@@ -49,3 +50,9 @@ places_of j rows u m w = pending_places u m w rows + outbox_places u m w rows + 
 pub record IsConserved (j : List Stamped) (rows : List Row) : Type 0 where
   pub owed : (u : UserId) (m : MessageId) (w : Way) → account j u m w ≢ NotOwed → places_of j rows u m w ≡ 1
   pub not_owed : (u : UserId) (m : MessageId) (w : Way) → account j u m w ≡ NotOwed → places_of j rows u m w ≡ 0
+
+-- ---- laws
+
+-- the rows of any list of events conserve its notices
+abbrev pub RowsConserve : Type 0
+RowsConserve = (j : List Stamped) → IsConserved j (any.rows j)

@@ -1,7 +1,9 @@
--- What the hub is told of any list of events: the deal of a number, who is a user, and the number of the run.
+-- What the hub is told of any list of events: the deal of a number, who is a user, and the number of the run; and what
+-- of the hub's outcomes was absorbed in this run.
 use Rattle.std.specs.Prelude.{ℕ, Bool, List, Option, slice_get}
 use Rattle.chat_model.specs.declared.event.Stamped.{Stamped}
 use Rattle.chat_model.specs.declared.deal.Deal.{Deal}
+use Rattle.chat_model.specs.declared.deal.Outcome.{Outcome}
 use Rattle.chat_model.specs.declared.ids.DealNo.{DealNo}
 use Rattle.chat_model.specs.declared.ids.UserId.{UserId}
 use Rattle.notice_ledger.specs.Past.Audit.{in_64_bits}
@@ -21,3 +23,11 @@ knows j u = values.is_user (lawful j) u
 -- the number of the run: how many lawful events are starts, in 64 bits
 abbrev pub run_number : List Stamped → ℕ
 run_number j = in_64_bits (runs.start_count (lawful j))
+
+-- the outcomes that lawful events absorb after the last start
+abbrev pub absorbed_since_start : List Stamped → List Outcome
+absorbed_since_start j = runs.absorbed_since_start (lawful j)
+
+-- no lawful event makes a deal or absorbs an outcome after the last start
+abbrev pub is_fresh : List Stamped → Bool
+is_fresh j = runs.is_fresh (lawful j)

@@ -1,5 +1,5 @@
 -- What the slow computation keeps of a notice and of a message, and what it computes of them.
-use Rattle.std.specs.Prelude.{ℕ, Bool, false, ◌&&◌, ◌||◌, ◌==◌, not, nat_le, List, [], ◌∷◌, Option, Some, None, unwrap_or, is_none, is_some, length, count_by, if◌then◌else◌}
+use Rattle.std.specs.Prelude.{ℕ, Bool, false, ◌&&◌, ◌||◌, ◌==◌, not, nat_le, nat_lt, List, [], ◌∷◌, Option, Some, None, option_and_then, unwrap_or, is_none, is_some, length, count_by, if◌then◌else◌}
 use Rattle.std.specs.Option.{option_map_or}
 use Rattle.std.specs.List.{list_any, filter_map, flat_map}
 use Rattle.chat_model.specs.declared.event.Stamped.{Stamped}
@@ -15,19 +15,21 @@ use Rattle.chat_model.specs.declared.trigger.Way.TheVariants.{Mail, Push}
 use Rattle.notice_ledger.specs.declared.accounts.Account.{Account}
 use Rattle.notice_ledger.specs.declared.accounts.Account.TheVariants.{Flight, Held, Ready, Handed, Cancelled, LiveQueue}
 use Rattle.notice_ledger.specs.declared.owed.Owed.{Owed}
+use Rattle.notice_ledger.specs.declared.readiness.Spot.{Spot}
+use Rattle.chat_model.specs.Outcomes.{is_dealt}
 use Rattle.chat_model.specs.Triggers.{trigger_of}
 use Rattle.notice_ledger.specs.declared.facts.Heard.{Heard}
 use Rattle.notice_ledger.specs.declared.due.DueUser.{DueUser as FoundDue}
-use Rattle.notice_ledger.specs.Past.Journal.{Occurrence, first_behind}
+use Rattle.notice_ledger.specs.Past.Journal.{Occurrence, first_behind, some_behind, absorbs}
 use Rattle.notice_ledger.specs.Past.Values.{numbered, is_one_of, is_member, settings, has_muted}
 use Rattle.notice_ledger.specs.Past.Triggers.{goes_to, is_direct, is_participant_of, policy_for, specific_for}
-use Rattle.notice_ledger.specs.Past.Owed.{Notice, same_way, is_turn_of, switch_on}
+use Rattle.notice_ledger.specs.Past.Owed.{Notice, same_way, pushes_online, clears, ready_behind, bar_cause, bar_behind, is_turn_of, switch_on, account_by}
 use Rattle.notice_ledger.specs.Past.Due.{DueUser}
 use Rattle.notice_ledger.specs.Past.Audit.{in_64_bits, same_account}
 
 -- a notice as the slow computation keeps it
 abbrev pub owed_kept : Notice → Owed
-owed_kept n = record { user = n.user; message = n.number; way = n.way; place = n.owing.place; at = n.owing.at }
+owed_kept n = record { user = n.user; message = n.number; way = n.way; deal = n.deal; online = pushes_online n; place = n.owing.place }
 
 -- the user is mentioned, by name or by a group of the user
 abbrev pub is_mentioned_in : List Stamped → Mentions → UserId → Bool
@@ -52,27 +54,64 @@ facts_heard past m u = record {
 
 -- the notice by a way, if what is so of the user triggers it
 abbrev pub owed_by_facts : Owed → Facts → Way → Option Owed
-owed_by_facts n facts w = if is_some (trigger_of facts w) then Some (record n { way = w }) else None
+owed_by_facts n facts w =
+    if is_some (trigger_of facts w) then Some (record n { way = w; online = same_way w Push && facts.settings.push_online }) else None
 
 -- what the message owes the user by the way
-abbrev pub owed_to : List Stamped → ℕ → Heard → UserId → Way → Option Owed
-owed_to past at m u w = owed_by_facts (record { user = u; message = m.number; way = Mail; place = length past; at = at }) (facts_heard past m u) w
+abbrev pub owed_to : List Stamped → Heard → UserId → Way → Option Owed
+owed_to past m u w =
+    owed_by_facts (record { user = u; message = m.number; way = Mail; deal = m.deal; online = false; place = length past }) (facts_heard past m u) w
 
 -- what the message owes these users: by user, mail before push
-abbrev pub owed_to_all : List Stamped → ℕ → Heard → List UserName → List Owed
-owed_to_all past at m users = flat_map (λ name. filter_map (owed_to past at m name.id) (Mail ∷ Push ∷ [])) users
+abbrev pub owed_to_all : List Stamped → Heard → List UserName → List Owed
+owed_to_all past m users = flat_map (λ name. filter_map (owed_to past m name.id) (Mail ∷ Push ∷ [])) users
 
--- the first event behind the owing one that is a turn of the notice
+-- the notice's ready event
+abbrev pub ready_kept : List Stamped → Owed → Option Occurrence
+ready_kept j n = ready_behind n.place n.user n.deal n.online j
+
+-- the place and the stamp of an event
+abbrev pub spot_of : Occurrence → Spot
+spot_of o = record { place = o.place; at = o.at }
+
+-- of two events the one at the lesser place
+abbrev pub earlier_spot : Spot → Spot → Spot
+earlier_spot a b = if nat_lt b.place a.place then b else a
+
+-- an absorbed outcome cleared the notice
+abbrev pub cleared_kept : List Stamped → Owed → Bool
+cleared_kept j n = some_behind n.place (λ o. clears n.user n.deal o.event) j
+
+-- the notice's deal was absorbed
+abbrev pub dealt_kept : List Stamped → Owed → Bool
+dealt_kept j n = some_behind n.place (λ o. absorbs (is_dealt n.deal) o.event) j
+
+-- the notice's bar
+abbrev pub bar_kept : List Stamped → Owed → Option Occurrence
+bar_kept j n = bar_behind n.place n.user n.message n.way j
+
+-- the first event behind the ready one that is a turn of the notice
 abbrev pub turn_kept : List Stamped → Owed → Option Occurrence
-turn_kept j n = first_behind n.place (λ o. is_turn_of n.user n.way o.event) j
+turn_kept j n = option_and_then (λ r. first_behind r.place (λ o. is_turn_of n.user n.way o.event) j) (ready_kept j n)
+
+-- what the notice's turn decided
+abbrev pub decided_kept : Owed → Occurrence → Account
+decided_kept n t = if switch_on t.past n.user n.way then Handed else Cancelled SwitchedOff
 
 -- where the notice stands
 abbrev pub account_kept : List Stamped → Owed → Account
-account_kept j n = option_map_or (λ t. if switch_on t.past n.user n.way then Handed else Cancelled SwitchedOff) (turn_kept j n) Ready
+account_kept j n =
+    account_by
+    (option_and_then (λ t. if is_none (bar_kept t.past n) then Some (decided_kept n t) else None) (turn_kept j n))
+    (option_and_then (bar_cause n.user n.message n.way) (bar_kept j n))
+    (is_some (ready_kept j n))
+    (cleared_kept j n)
+    (dealt_kept j n)
 
--- the notice is a batch row of the user
+-- the notice is a batch row of the user; no event bars it
 abbrev pub is_batch_kept : List Stamped → UserId → Owed → Bool
-is_batch_kept j u n = n.user.0 == u.0 && same_way n.way Mail && is_none (turn_kept j n)
+is_batch_kept j u n =
+    n.user.0 == u.0 && same_way n.way Mail && (is_some (ready_kept j n) && is_none (turn_kept j n))
 
 -- a user with a due moment, as it was found
 abbrev pub found_due : FoundDue → DueUser

@@ -1,15 +1,16 @@
-//! When mails are due, and where an owed notice stands, by looking through the whole list of events.
-ghost use Rattle.std.specs.Prelude.{◌≡◌, ◌+◌, ◌<◌, ◌^◌, ◌&&◌, nat_lt, slice_get, map, filter, is_none, option_map, IfOk, if◌then◌else◌};
+//! When mails are due, by looking through the whole list of events.
+ghost use Rattle.std.specs.Prelude.{◌≡◌, ◌+◌, ◌<◌, ◌^◌, ◌&&◌, map, filter, is_none, is_some, option_map, IfOk};
 ghost use Rattle.std.specs.Option.{option_map_or};
-ghost use Rattle.notice_ledger.specs.Past.Owed.{is_mail_turn_of, is_turn_of, switch_on, turn_switch};
-ghost use Rattle.notice_ledger.specs.Past.Due.{batch_rows, due, first_due, sooner};
-ghost use Rattle.notice_ledger.specs.Plain.{account_kept, found_due, is_batch_kept, owed_kept, turn_kept};
+ghost use Rattle.std.specs.List.{filter_map, reduce};
+ghost use Rattle.notice_ledger.specs.Past.Due.{batch_rows, due, earlier, first_due, sooner};
+ghost use Rattle.notice_ledger.specs.Plain.{earlier_spot, found_due, is_batch_kept, owed_kept, ready_kept, spot_of, turn_kept};
 
-use crate::Account;
 use crate::owed::{Owed, notices};
+use crate::readiness::{Spot, ready};
 use crate::settings::settings;
+use crate::turns::decision;
 use crate::values::user_names;
-use chat_model::{Cause, Event, OutOfMemory, Settings, Stamped, UserId, Way};
+use chat_model::{OutOfMemory, Stamped, UserId, Way};
 use std::alloc::Global;
 
 /// A user with a due moment, in seconds since 1970-01-01T00:00:00Z.
@@ -19,80 +20,14 @@ pub struct DueUser {
     pub user: UserId,
 }
 
-fn is_mail_turn_of(user: UserId, event: &Event) -> bool
-    ensures { result ≡ is_mail_turn_of user event.now }
+/// Whether the notice is ready and had no turn.
+fn is_unturned(journal: &[Stamped], notice: &Owed) -> bool
+    ensures { result ≡ (is_some (ready_kept journal.now notice.now) && is_none (turn_kept journal.now notice.now)) }
 {
-    match event {
-        Event::MailTurn(other) => other.0 == user.0,
-        _ => false,
-    }
+    ready(journal, notice).is_some() && decision(journal, notice).is_none()
 }
 
-/// Whether the event is a turn of the user by the way.
-fn is_turn_of(user: UserId, way: Way, event: &Event) -> bool
-    ensures { result ≡ is_turn_of user way event.now }
-{
-    match way {
-        Way::Mail => is_mail_turn_of(user, event),
-        Way::Push => false,
-    }
-}
-
-/// The switch that a turn of the way looks at.
-fn turn_switch(way: Way, settings: &Settings) -> bool
-    ensures { result ≡ turn_switch way settings.now }
-{
-    match way {
-        Way::Mail => settings.mail_mentions,
-        Way::Push => settings.push_mentions || settings.push_online,
-    }
-}
-
-/// Whether the user's switch for a turn of the way is on.
-pub fn is_switch_on(past: &[Stamped], user: UserId, way: Way) -> bool
-    ensures { result ≡ switch_on past.now user way }
-{
-    turn_switch(way, &settings(past, user))
-}
-
-/// Where a notice stands that has its turn behind these events.
-fn decided(past: &[Stamped], notice: &Owed) -> Account
-    ensures { result ≡ (if switch_on past.now notice.now.user notice.now.way then Account.Handed else Account.Cancelled Cause.SwitchedOff) }
-{
-    if is_switch_on(past, notice.user, notice.way) {
-        Account::Handed
-    } else {
-        Account::Cancelled(Cause::SwitchedOff)
-    }
-}
-
-/// Whether an event at a place stands behind the owing one and is a turn of the notice.
-fn is_turn_behind(notice: &Owed, place: usize, event: &Event) -> bool
-    ensures { result ≡ (nat_lt notice.now.place place && is_turn_of notice.now.user notice.now.way event.now) }
-{
-    notice.place < place && is_turn_of(notice.user, notice.way, event)
-}
-
-/// Where an owed notice stands: by its turn, if it had one.
-pub fn account_of(journal: &[Stamped], notice: &Owed) -> Account
-    ensures { result ≡ account_kept journal.now notice.now }
-{
-    for i in 0..journal.len() {
-        if is_turn_behind(notice, i, &journal[i].event) {
-            return decided(&journal[..i], notice);
-        }
-    }
-    Account::Ready
-}
-
-/// Whether the notice had no turn.
-fn is_waiting(journal: &[Stamped], notice: &Owed) -> bool
-    ensures { result ≡ is_none (turn_kept journal.now notice.now) }
-{
-    matches!(account_of(journal, notice), Account::Ready)
-}
-
-/// Whether the notice is a batch row of the user.
+/// Whether the notice is a batch row of the user: a mail notice that is ready and had no turn. No event bars it yet.
 fn is_batch_row(journal: &[Stamped], user: UserId, notice: &Owed) -> bool
     ensures { result ≡ is_batch_kept journal.now user notice.now }
 {
@@ -101,7 +36,7 @@ fn is_batch_row(journal: &[Stamped], user: UserId, notice: &Owed) -> bool
             Way::Mail => true,
             Way::Push => false,
         }
-        && is_waiting(journal, notice)
+        && is_unturned(journal, notice)
 }
 
 /// The user's batch rows, in the order of the events that owe them.
@@ -133,23 +68,47 @@ fn rows_among(
     Ok(rows.collect(alloc)?)
 }
 
-/// The stamp of the event that owes the first of the notices, plus the period.
-fn first_moment(rows: &[Owed], period: u64) -> Option<u64>
-    requires { period < 2 ^ 63 }
-    ensures { result ≡ option_map (λ n. n.at + period) (slice_get rows.now 0) }
+/// Of two events the one that stands first.
+fn earlier(first: Option<Spot>, next: Spot) -> Spot
+    ensures { result ≡ option_map_or (λ a. earlier_spot a next) first next }
 {
-    match rows.first() {
-        Some(first) => Some(first.at.seconds() + period),
+    match first {
+        Some(first) if first.place <= next.place => first,
+        _ => next,
+    }
+}
+
+/// The first of the events at which these notices are ready.
+fn first_ready(journal: &[Stamped], rows: &[Owed]) -> Option<Spot>
+    ensures { result ≡ option_map spot_of (reduce earlier (filter_map (ready_kept journal.now) rows.now)) }
+{
+    let mut first = None;
+    for row in rows {
+        if let Some(spot) = ready(journal, row) {
+            first = Some(earlier(first, spot));
+        }
+    }
+    first
+}
+
+/// The stamp of the event, plus the period.
+fn first_moment(first: Option<Spot>, period: u64) -> Option<u64>
+    requires { period < 2 ^ 63 }
+    ensures { result ≡ option_map (λ s. s.at + period) first }
+{
+    match first {
+        Some(spot) => Some(spot.at.seconds() + period),
         None => None,
     }
 }
 
-/// When the user's mails are due, in seconds since 1970-01-01T00:00:00Z: the earliest of its batch rows comes first.
+/// When the user's mails are due, in seconds since 1970-01-01T00:00:00Z: the batch row that is ready first settles it.
 fn due(alloc: Global, journal: &[Stamped], user: UserId) -> Result<Option<u64>, OutOfMemory>
     ensures { IfOk result (λ moment. moment ≡ due journal.now user) }
 {
     let rows = batch_rows(alloc, journal, user)?;
-    Ok(first_moment(&rows, settings(journal, user).period))
+    let first = first_ready(journal, &rows);
+    Ok(first_moment(first, settings(journal, user).period))
 }
 
 /// Of two users the one with the lesser due moment, and at a tie the first.

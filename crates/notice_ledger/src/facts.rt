@@ -10,12 +10,13 @@ use crate::Destination;
 use crate::messages::is_participant;
 use crate::settings::{has_muted, policy, settings, specific};
 use crate::values::{is_member, is_one_of, is_subscribed};
-use chat_model::{Facts, GroupId, Mentions, MessageId, Policy, Specific, Stamped, UserId};
+use chat_model::{DealNo, Facts, GroupId, Mentions, MessageId, Policy, Specific, Stamped, UserId};
 
-/// A message at its send: where it goes, what it mentions, and which users are bots.
+/// A message at its send: its deal, where it goes, what it mentions, and which users are bots.
 #[derive(Debug, Drop)]
 pub struct Heard {
     pub number: MessageId,
+    pub deal: DealNo,
     pub sender: UserId,
     pub to: Destination,
     pub mentioned: Mentions,

@@ -32,6 +32,7 @@ fn may_stand(
 {
     match event {
         Event::Restart => Ok(true),
+        Event::Absorbed(_) => Ok(true),
         Event::Asked(request) => Ok(refusal(past, request).is_none() && is_in_order(request)),
         Event::MailTurn(user) => {
             let first = first_due(alloc, past)?;

@@ -14,6 +14,7 @@ mod laws;
 mod messages;
 mod order;
 mod owed;
+mod readiness;
 mod refused;
 mod rules;
 mod settings;
@@ -22,11 +23,12 @@ mod slow;
 mod slow_tests;
 #[cfg(test)]
 mod tests;
+mod turns;
 mod values;
 
 pub use accounts::Account;
 pub use destination::Destination;
-pub use laws::{refusal_is_least, rows_are_listed, rows_ascend, rules_ascend};
+pub use laws::{refusal_is_least, rows_are_listed, rows_ascend, rows_conserve, rules_ascend};
 pub use order::{in_order, is_in_order};
 pub use rules::{is_bad_name, is_blank, is_longer_than};
 pub use slow::{account, audit};

@@ -3,9 +3,9 @@ ghost use Rattle.std.specs.Prelude.{◌≡◌, ◌==◌, ◌&&◌, ◌+◌, fals
 ghost use Rattle.std.specs.List.{list_any};
 ghost use Rattle.std.specs.Option.{option_map_or};
 ghost use Rattle.std.specs.Str.{str_eq_ignore_ascii_case};
-ghost use Rattle.notice_ledger.specs.Past.Values.{is_participant, is_to_topic, makes_deal, messages, sending_of};
+ghost use Rattle.notice_ledger.specs.Past.Values.{deal_count, is_participant, is_to_topic, makes_deal, messages, sending_of};
 
-use chat_model::{ChannelId, Event, MessageId, Request, Stamped, UserId};
+use chat_model::{ChannelId, DealNo, Event, MessageId, Request, Stamped, UserId};
 
 fn sends(event: &Event) -> bool
     ensures { result ≡ makes_deal event.now }
@@ -28,6 +28,13 @@ pub fn next_message(past: &[Stamped]) -> MessageId
     ensures { result.0 ≡ length (messages past.now) + 1 }
 {
     MessageId(send_count(past) as u64 + 1)
+}
+
+/// The number of the next deal.
+pub fn next_deal(past: &[Stamped]) -> DealNo
+    ensures { result.0 ≡ deal_count past.now }
+{
+    DealNo(send_count(past) as u64)
 }
 
 /// Whether the event is a send of the user to the topic of the channel.

@@ -3,29 +3,40 @@ ghost use Rattle.std.specs.Prelude.{◌≡◌, [], ◌∷◌, ◌++◌, map, opt
 ghost use Rattle.std.specs.List.{filter_map};
 ghost use Rattle.notice_ledger.specs.Past.Journal.{occurrence};
 ghost use Rattle.notice_ledger.specs.Past.Triggers.{mentions_of};
-ghost use Rattle.notice_ledger.specs.Past.Owed.{notices, owed_by, owed_of};
+ghost use Rattle.notice_ledger.specs.Past.Owed.{notices, owed_by, owed_of, same_way};
 ghost use Rattle.notice_ledger.specs.Plain.{owed_kept, owed_by_facts, owed_to_all};
 
 use crate::Destination;
 use crate::facts::Heard;
-use crate::messages::next_message;
+use crate::messages::{next_deal, next_message};
 use crate::values::{bots, group_names, user_names};
 use chat_model::{
-    Event, Facts, Mentions, MessageId, Moment, OutOfMemory, Request, Stamped, Text, UserId,
+    DealNo, Event, Facts, Mentions, MessageId, OutOfMemory, Request, Stamped, Text, UserId,
     UserName, Way,
 };
 use mention_scan::{resolve, scan};
 use std::alloc::Global;
 use trigger_rules::trigger;
 
-/// An owed notice, with the place and the stamp of the event that owes it.
+/// An owed notice, with its deal and the place of the event that owes it. It is `online` where it is a push to a user who
+/// wanted pushes while online at that event.
 #[derive(Clone, Copy, Debug)]
 pub struct Owed {
     pub user: UserId,
     pub message: MessageId,
     pub way: Way,
+    pub deal: DealNo,
+    pub online: bool,
     pub place: usize,
-    pub at: Moment,
+}
+
+fn is_push(way: Way) -> bool
+    ensures { result ≡ same_way way Way.Push }
+{
+    match way {
+        Way::Mail => false,
+        Way::Push => true,
+    }
 }
 
 /// What the text mentions, with the users and groups that there are.
@@ -49,8 +60,9 @@ impl Owed {
                 user: self.user,
                 message: self.message,
                 way,
+                deal: self.deal,
+                online: is_push(way) && facts.settings.push_online,
                 place: self.place,
-                at: self.at,
             })?;
         }
         Ok(())
@@ -70,11 +82,10 @@ impl Owed {
 fn owed_to_all(
     alloc: Global,
     past: &[Stamped],
-    at: Moment,
     heard: &Heard,
     users: &[UserName],
 ) -> Result<Vec<Owed>, OutOfMemory>
-    ensures { IfOk result (λ owed. owed.items ≡ owed_to_all past.now at heard.now users.now) }
+    ensures { IfOk result (λ owed. owed.items ≡ owed_to_all past.now heard.now users.now) }
 {
     let mut owed = Vec::new(alloc);
     for name in users {
@@ -83,8 +94,9 @@ fn owed_to_all(
             user: name.id,
             message: heard.number,
             way: Way::Mail,
+            deal: heard.deal,
+            online: false,
             place: past.len(),
-            at,
         };
         notice.add_both(&facts, &mut owed)?;
     }
@@ -104,13 +116,14 @@ fn owed_of(
 {
     let heard = Heard {
         number: next_message(past),
+        deal: next_deal(past),
         sender,
         to,
         mentioned: mentions(alloc, past, text.as_str())?,
         bots: bots(alloc, past)?,
     };
     let users = user_names(alloc, past)?;
-    owed_to_all(alloc, past, stamped.at, &heard, &users)
+    owed_to_all(alloc, past, &heard, &users)
 }
 
 /// What an event behind these owes: by user, mail before push.

@@ -12,9 +12,10 @@ ghost use Rattle.notice_ledger.specs.Audit.{counts_of};
 ghost use Rattle.notice_ledger.specs.Plain.{account_kept, counts_kept, is_of_kept};
 
 use crate::Account;
-use crate::due::{account_of, batch_rows, is_switch_on};
+use crate::due::batch_rows;
 use crate::kept::lawful_events;
 use crate::owed::{Owed, notices};
+use crate::turns::{account_of, is_switch_on};
 use chat_model::{Cause, Counts, Event, MessageId, OutOfMemory, Stamped, UserId, Way};
 use std::alloc::Global;
 

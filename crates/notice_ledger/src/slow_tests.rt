@@ -1,7 +1,7 @@
 use crate::{Account, account, audit};
 use chat_model::{
-    ChannelId, Counts, Event, List, MessageId, Moment, Policy, Request, SettingChange,
-    SpecificChange, Stamped, Text, UserId, Way,
+    ChannelId, Counts, DealNo, Event, List, MessageId, Moment, Outcome, Policy, QueueId, Request,
+    SettingChange, SpecificChange, Stamped, Text, UserId, UserVerdict, Verdict, Way,
 };
 use std::alloc::Global;
 use std::process::Abort;
@@ -71,6 +71,53 @@ fn lunch(rt: &impl Abort, alloc: Global) -> Result<Vec<Stamped>, Fail> {
     Ok(journal)
 }
 
+// The hub dealt the deal, with the verdict for Ben.
+fn dealt(alloc: Global, deal: u64, verdict: Verdict) -> Result<Event, Fail> {
+    let mut verdicts = List::new(alloc);
+    verdicts.push(UserVerdict {
+        user: UserId(2),
+        verdict,
+    })?;
+    let deal = DealNo(deal);
+    Ok(Event::Absorbed(Outcome::Dealt { deal, verdicts }))
+}
+
+// A queue of Ben's cleared the deal.
+fn cleared(alloc: Global, deal: u64) -> Result<Event, Fail> {
+    let mut deals = List::new(alloc);
+    deals.push(DealNo(deal))?;
+    Ok(Event::Absorbed(Outcome::Cleared {
+        user: UserId(2),
+        deals,
+        queue: QueueId { run: 1, number: 1 },
+    }))
+}
+
+// Ben missed the first deals, so many of them.
+fn missed(alloc: Global, count: u64) -> Result<Event, Fail> {
+    let mut deals = List::new(alloc);
+    for deal in 0..count {
+        deals.push(DealNo(deal))?;
+    }
+    let user = UserId(2);
+    Ok(Event::Absorbed(Outcome::Missed { user, deals }))
+}
+
+// So many notices are in flight.
+fn in_flight(flight: u64) -> Counts {
+    let mut found = counts(0, 0);
+    found.flight = flight;
+    found
+}
+
+// So many notices are held, and a live queue cleared so many.
+fn held(held: u64, live: u64) -> Counts {
+    let mut found = counts(0, 0);
+    found.held = held;
+    found.live = live;
+    found
+}
+
 // So many notices are ready, and so many were handed, each in an entry of its own.
 fn counts(ready: u64, handed: u64) -> Counts {
     Counts {
@@ -121,7 +168,11 @@ fn add_unlawful(rt: &impl Abort, alloc: Global, journal: &mut Vec<Stamped>) -> R
 fn events_that_are_not_lawful_do_not_count(rt: HostRuntime) -> Result<(), Fail> {
     let alloc = rt.alloc();
     let mut journal = lunch(&rt, alloc)?;
-    assert_eq!(rt; audit(alloc, &journal)?, counts(2, 0));
+    assert_eq!(rt; audit(alloc, &journal)?, in_flight(2));
+    // A stamp that goes back.
+    add(&rt, &mut journal, 99, dealt(alloc, 0, Verdict::Idle)?)?;
+    assert_eq!(rt; audit(alloc, &journal)?, in_flight(2));
+    add(&rt, &mut journal, 100, dealt(alloc, 0, Verdict::Idle)?)?;
     add_unlawful(&rt, alloc, &mut journal)?;
     assert_eq!(rt; audit(alloc, &journal)?, counts(2, 0));
     expect_accounts(&rt, alloc, &journal, Account::Ready, Account::Ready)?;
@@ -141,12 +192,13 @@ fn an_account_is_found(rt: HostRuntime) -> Result<(), Fail> {
     let message = MessageId(1);
     assert_eq!(rt;
         account(alloc, &journal, ben, message, Way::Mail)?,
-        Account::Ready
+        Account::Flight
     );
     assert_eq!(rt;
         account(alloc, &journal, UserId(1), message, Way::Mail)?,
         Account::NotOwed
     );
+    add(&rt, &mut journal, 100, dealt(alloc, 0, Verdict::Idle)?)?;
     add(&rt, &mut journal, 220, Event::MailTurn(ben))?;
     assert_eq!(rt;
         account(alloc, &journal, ben, message, Way::Mail)?,
@@ -201,16 +253,16 @@ fn hear(rt: &impl Abort, journal: &mut Vec<Stamped>, event: Event) -> Result<(),
     add(rt, journal, 100, event)
 }
 
-// The message comes at second 100, and so many notices are ready then.
+// The message comes at second 100, and so many notices are in flight then.
 fn hear_message(
     rt: &impl Abort,
     alloc: Global,
     journal: &mut Vec<Stamped>,
     message: Event,
-    ready: u64,
+    flight: u64,
 ) -> Result<(), Fail> {
     hear(rt, journal, message)?;
-    assert_eq!(rt; audit(alloc, journal)?, counts(ready, 0));
+    assert_eq!(rt; audit(alloc, journal)?, in_flight(flight));
     Ok(())
 }
 
@@ -268,10 +320,86 @@ fn what_a_user_set_is_judged_at_each_message(rt: HostRuntime) -> Result<(), Fail
 fn a_turn_that_finds_the_switch_off_hands_nothing_over(rt: HostRuntime) -> Result<(), Fail> {
     let alloc = rt.alloc();
     let mut journal = lunch(&rt, alloc)?;
+    hear(&rt, &mut journal, dealt(alloc, 0, Verdict::Idle)?)?;
     hear(&rt, &mut journal, set(SettingChange::MailMentions(false)))?;
     add(&rt, &mut journal, 220, Event::MailTurn(UserId(2)))?;
     let mut off = counts(1, 0);
     off.off = 1;
     assert_eq!(rt; audit(alloc, &journal)?, off);
+    Ok(())
+}
+
+#[test]
+fn a_deal_that_was_cleared_first_is_never_ready(rt: HostRuntime) -> Result<(), Fail> {
+    let alloc = rt.alloc();
+    let mut journal = lunch(&rt, alloc)?;
+    add(&rt, &mut journal, 100, cleared(alloc, 0)?)?;
+    assert_eq!(rt; audit(alloc, &journal)?, held(0, 2));
+    add(&rt, &mut journal, 100, dealt(alloc, 0, Verdict::Idle)?)?;
+    add(&rt, &mut journal, 100, missed(alloc, 1)?)?;
+    add(&rt, &mut journal, 100, Event::Restart)?;
+    assert_eq!(rt; audit(alloc, &journal)?, held(0, 2));
+    Ok(())
+}
+
+#[test]
+fn a_miss_readies_what_no_queue_cleared(rt: HostRuntime) -> Result<(), Fail> {
+    let alloc = rt.alloc();
+    let mut journal = lunch(&rt, alloc)?;
+    add(&rt, &mut journal, 100, send(alloc, "again @**Ben**")?)?;
+    add(&rt, &mut journal, 100, dealt(alloc, 0, Verdict::Live)?)?;
+    add(&rt, &mut journal, 100, dealt(alloc, 1, Verdict::Live)?)?;
+    assert_eq!(rt; audit(alloc, &journal)?, held(4, 0));
+    add(&rt, &mut journal, 100, cleared(alloc, 0)?)?;
+    assert_eq!(rt; audit(alloc, &journal)?, held(2, 2));
+    add(&rt, &mut journal, 150, missed(alloc, 2)?)?;
+    let mut half = held(0, 2);
+    half.ready = 2;
+    assert_eq!(rt; audit(alloc, &journal)?, half);
+    // The mails are due two minutes after the miss.
+    add(&rt, &mut journal, 269, Event::MailTurn(UserId(2)))?;
+    assert_eq!(rt; audit(alloc, &journal)?, half);
+    add(&rt, &mut journal, 270, Event::MailTurn(UserId(2)))?;
+    half.ready = 1;
+    half.handed = 1;
+    half.entries = 1;
+    assert_eq!(rt; audit(alloc, &journal)?, half);
+    Ok(())
+}
+
+#[test]
+fn pushes_while_online_are_wanted_at_the_send(rt: HostRuntime) -> Result<(), Fail> {
+    let alloc = rt.alloc();
+    let mut journal = lunch(&rt, alloc)?;
+    add(&rt, &mut journal, 100, set(SettingChange::PushOnline(true)))?;
+    add(&rt, &mut journal, 100, dealt(alloc, 0, Verdict::Live)?)?;
+    assert_eq!(rt; audit(alloc, &journal)?, held(2, 0));
+    // Owed by push alone, since no mails are wanted.
+    hear(&rt, &mut journal, set(SettingChange::MailMentions(false)))?;
+    hear(&rt, &mut journal, send(alloc, "again @**Ben**")?)?;
+    hear(&rt, &mut journal, set(SettingChange::PushOnline(false)))?;
+    hear(&rt, &mut journal, dealt(alloc, 1, Verdict::Live)?)?;
+    let mut one_ready = held(2, 0);
+    one_ready.ready = 1;
+    assert_eq!(rt; audit(alloc, &journal)?, one_ready);
+    Ok(())
+}
+
+#[test]
+fn a_start_readies_what_is_undecided_once(rt: HostRuntime) -> Result<(), Fail> {
+    let alloc = rt.alloc();
+    let mut journal = lunch(&rt, alloc)?;
+    add(&rt, &mut journal, 100, dealt(alloc, 0, Verdict::Live)?)?;
+    add(&rt, &mut journal, 100, send(alloc, "again @**Ben**")?)?;
+    let mut two_of_each = held(2, 0);
+    two_of_each.flight = 2;
+    assert_eq!(rt; audit(alloc, &journal)?, two_of_each);
+    add(&rt, &mut journal, 150, Event::Restart)?;
+    assert_eq!(rt; audit(alloc, &journal)?, counts(4, 0));
+    add(&rt, &mut journal, 160, Event::Restart)?;
+    assert_eq!(rt; audit(alloc, &journal)?, counts(4, 0));
+    // The first of the starts settles when the mails are due.
+    add(&rt, &mut journal, 270, Event::MailTurn(UserId(2)))?;
+    assert_eq!(rt; audit(alloc, &journal)?, counts(2, 2));
     Ok(())
 }

@@ -8,7 +8,7 @@ use Rattle.keeper.specs.declared.keeper.Kept.{Kept}
 use Rattle.notice_ledger.specs.Conserved.{IsConserved}
 use Rattle.notice_ledger.specs.Rows.{rows}
 use Rattle.office.specs.Office.{KeptStandsFor, HasDisagreed}
-use Rattle.office.proofs.Conserved.{rows-conserved}
+use Rattle.notice_ledger.proofs.Conservation.{rows-conserved}
 use Rattle.notifyd.specs.Status.{KeptIsConsistent, KeptDiffers, KeptIsConserved}
 use Rattle.notifyd.specs.Run.{KeepsWell}
 

@@ -6,6 +6,7 @@ pub mod ListedLemmas
 pub mod TextLemmas
 pub mod LineLemmas
 pub mod PlayLemmas
+pub mod PipeLemmas
 pub mod HubLemmas
 pub mod CutLemmas
 pub mod GoingLemmas

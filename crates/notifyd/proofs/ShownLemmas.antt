@@ -33,8 +33,13 @@ use Rattle.presence_queues.specs.Hub.{QueueSeen, queue_at, overdue_user}
 use Rattle.presence_queues.specs.Steps.{acked, left_items, item_of}
 use Rattle.presence_queues.specs.declared.answer.QueueItem.{QueueItem}
 use Rattle.presence_queues.specs.declared.answer.SweepAnswer.TheVariants.{Ended, NoneOverdue}
-use Rattle.notifyd.specs.Pieces.{rest_text, list_text, item_text, verdict_word, verdict_text}
-use Rattle.notifyd.specs.HubWords.{queue_words, items_words, sweep_words, dealt_words}
+use Rattle.notifyd.specs.Pieces.{rest_text, list_text, item_text, verdict_word, verdict_text, deal_text}
+use Rattle.notifyd.specs.HubWords.{queue_words, items_words, sweep_words, dealt_words, outcome_words}
+use Rattle.chat_model.specs.declared.deal.Outcome.{Outcome}
+use Rattle.chat_model.specs.declared.deal.Outcome.TheVariants as outcome
+use Rattle.chat_model.specs.declared.ids.DealNo.{DealNo}
+use Rattle.office.specs.declared.answer.Absorbed.TheVariants as absorbed
+use Rattle.notifyd.specs.AbsorbStep.{next_absorbed, absorbed_step}
 use Rattle.notifyd.specs.HubStep.{stays, steps_to, register_step, beat_step, is_past_next, acked_step, left_step, swept_step, dealt_step}
 use Rattle.notifyd.specs.declared.line.Line.{Line}
 use Rattle.notifyd.specs.declared.line.Line.TheVariants as line
@@ -118,6 +123,26 @@ verdict_plain given = join (decimal given.user.0 ++ codes "=") (verdict_word giv
     by Idle = refl
     by Live = refl
 
+deals_plain : (deals : List DealNo) → has_line_feed (list_text deal_text deals) ≡ false
+deals_plain deals = list_plain deal_text (λ d. decimal_plain d.0) deals
+
+outcome_plain : (o : Outcome) → has_line_feed (outcome_words o) ≡ false
+outcome_plain (outcome.Dealt deal verdicts) = join (codes "absorbed dealt ") (decimal deal.0) refl (decimal_plain deal.0)
+outcome_plain (outcome.Cleared user deals queue) =
+    let named = codes "absorbed cleared " ++ decimal user.0 in
+    let listed = named ++ codes " " ++ list_text deal_text deals in
+    let by = listed ++ codes " by " ++ decimal queue.run in
+    with_number by (codes ":") queue.number
+    (with_number listed (codes " by ") queue.run (join (named ++ codes " ") (list_text deal_text deals) (join named (codes " ") (join (codes "absorbed cleared ") (decimal user.0) refl (decimal_plain user.0)) refl) (deals_plain deals)) refl) refl
+outcome_plain (outcome.Missed user deals) =
+    let named = codes "absorbed missed " ++ decimal user.0 in
+    join (named ++ codes " ") (list_text deal_text deals) (join named (codes " ") (join (codes "absorbed missed ") (decimal user.0) refl (decimal_plain user.0)) refl) (deals_plain deals)
+
+outcome_mark : (o : Outcome) → mark_given (reply_text (reply.Absorbed (absorbed.Outcome o))) ≡ Clean
+outcome_mark (outcome.Dealt deal verdicts) = refl
+outcome_mark (outcome.Cleared user deals queue) = refl
+outcome_mark (outcome.Missed user deals) = refl
+
 one_line : (text words : List ℕ) → text ≡ words ++ 10 ∷ [] → has_line_feed words ≡ false → IsOneLine text
 one_line text words e h = record { words = words; ended = e; single = h }
 
@@ -137,6 +162,8 @@ gives-mark (reply.Sweep (Ended user queues)) = record { one_line = one_line _ (s
 gives-mark (reply.Sweep (NoneOverdue (Some moment))) = record { one_line = one_line _ (sweep_words (NoneOverdue (Some moment))) refl (decimal_plain moment); mark = refl }
 gives-mark (reply.Sweep (NoneOverdue None)) = record { one_line = one_line _ (sweep_words (NoneOverdue None)) refl refl; mark = refl }
 gives-mark (reply.Dealt deal verdicts) = record { one_line = one_line _ (dealt_words deal verdicts) refl (join (codes "dealt " ++ decimal deal.0 ++ codes " ") (list_text verdict_text verdicts) (join (codes "dealt " ++ decimal deal.0) (codes " ") (decimal_plain deal.0) refl) (list_plain verdict_text verdict_plain verdicts)); mark = refl }
+gives-mark (reply.Absorbed (absorbed.Outcome outcome)) = record { one_line = one_line _ (outcome_words outcome) refl (outcome_plain outcome); mark = outcome_mark outcome }
+gives-mark (reply.Absorbed absorbed.NothingWaiting) = record { one_line = one_line _ (codes "nothing waiting") refl refl; mark = refl }
 gives-mark reply.NoDeal = record { one_line = one_line _ (codes "no deal") refl refl; mark = refl }
 gives-mark (reply.Refused refused) = record { one_line = one_line _ (refusal_words refused) refl (refusal_plain refused); mark = refl }
 gives-mark reply.KeeperFault = record { one_line = one_line _ (codes "fault keeper") refl refl; mark = refl }
@@ -178,6 +205,10 @@ dealt_answered : (o : Option Deal) (w : World) → is_some (dealt_step o w).repl
 dealt_answered None w = refl
 dealt_answered (Some d) w = refl
 
+absorbed_answered : (o : Option Outcome) (w : World) → is_some (absorbed_step o w).reply ≡ true
+absorbed_answered None w = refl
+absorbed_answered (Some o) w = refl
+
 -- where nothing fails a step has a reply where its line has an output line
 clean_answered : (w : World) (l : Line) → is_some (clean_step w l).reply ≡ has_output l
 clean_answered w line.Nothing = refl
@@ -191,6 +222,7 @@ clean_answered w (line.Ack user queue upto) = known_answered (knows w.journal us
 clean_answered w (line.Leave user queue) = known_answered (knows w.journal user) w (left_step (queue_at w.hub user queue) w user) (left_answered (queue_at w.hub user queue) w user)
 clean_answered w line.Sweep = swept_answered (overdue_user w.hub w.clock) w
 clean_answered w line.Deal = dealt_answered (deal w.journal w.hub.next) w
+clean_answered w line.Absorb = absorbed_answered (next_absorbed w) w
 
 -- a line that may want memory has an output line
 wanting_answered : (w : World) (l : Line) → IsTrue (may_want_memory w l) → true ≡ has_output l

@@ -5,7 +5,7 @@ use Rattle.std.specs.Str.Lossy.{utf8_valid_len}
 use Rattle.chat_model.specs.declared.request.Request.TheVariants.{AddUser, AddGroup, Member, AddChannel, Subscribe, Set, SetChannel, SetPolicy, Mute, Send, Direct}
 use Rattle.chat_model.specs.Number.{number_of}
 use Rattle.notifyd.specs.declared.line.Line.{Line}
-use Rattle.notifyd.specs.declared.line.Line.TheVariants.{Nothing, At, Asked, Mail, Audit, Register, Beat, Ack, Leave, Sweep, Deal}
+use Rattle.notifyd.specs.declared.line.Line.TheVariants.{Nothing, At, Asked, Mail, Audit, Register, Beat, Ack, Leave, Sweep, Deal, Absorb}
 use Rattle.notifyd.specs.Field.{column_of, is_space, field_start, word_end, word_at, word_field, moment_of, switch_of, queue_of, upto_of, list_of, numbers_of, string_field, line_end}
 use Rattle.notifyd.specs.Keys.{setting_key_of, setting_of, specific_key_of, specific_of, policy_of}
 use Rattle.notifyd.specs.Listed.{users_of}
@@ -183,6 +183,12 @@ deal_line line place = do
   end ← line_end line place
   Ok Deal
 
+-- `absorb`
+unfoldable pub absorb_line : List ℕ → ℕ → Result Line ℕ
+absorb_line line place = do
+  end ← line_end line place
+  Ok Absorb
+
 -- a line of the hub: its first word says which fields follow, and another first word is a bad field
 unfoldable pub hub_reading : List ℕ → Result Line ℕ
 hub_reading line =
@@ -195,7 +201,8 @@ hub_reading line =
     else (if bytes_eq word (codes "leave") then leave_line line place
     else (if bytes_eq word (codes "sweep") then sweep_line line place
     else (if bytes_eq word (codes "deal") then deal_line line place
-    else Err (column_of start))))))
+    else (if bytes_eq word (codes "absorb") then absorb_line line place
+    else Err (column_of start)))))))
 
 -- a line that is no request: its first word says which fields follow, or else it is one of the hub
 unfoldable pub step_reading : List ℕ → Result Line ℕ

@@ -19,6 +19,8 @@ pub mod Cut
 pub mod World
 pub mod Stepped
 pub mod HubStep
+pub mod AbsorbStep
+pub mod PipeLaw
 pub mod Step
 pub mod Mark
 pub mod Play

@@ -1,5 +1,6 @@
 -- What stands in the lists of answers.
 use Rattle.std.specs.Prelude.{ℕ, List, [], ◌∷◌, ◌++◌, fold, codes, decimal}
+use Rattle.chat_model.specs.declared.ids.DealNo.{DealNo}
 use Rattle.chat_model.specs.declared.deal.UserVerdict.{UserVerdict}
 use Rattle.chat_model.specs.declared.deal.Verdict.{Verdict}
 use Rattle.chat_model.specs.declared.deal.Verdict.TheVariants.{Idle, Live}
@@ -30,3 +31,7 @@ verdict_word Live = codes "live"
 -- a user's verdict
 abbrev pub verdict_text : UserVerdict → List ℕ
 verdict_text given = decimal given.user.0 ++ codes "=" ++ verdict_word given.verdict
+
+-- the number of a deal
+abbrev pub deal_text : DealNo → List ℕ
+deal_text deal = decimal deal.0

@@ -1,8 +1,8 @@
 -- The text of a reply.
 use Rattle.std.specs.Prelude.{ℕ, List, codes}
 use Rattle.notifyd.specs.declared.reply.Reply.{Reply}
-use Rattle.notifyd.specs.declared.reply.Reply.TheVariants.{Answer, Mail, Audit, Queue, Items, Sweep, Dealt, NoDeal, Refused, KeeperFault, OutOfMemory}
-use Rattle.notifyd.specs.HubWords.{queue_words, items_words, sweep_words, dealt_words}
+use Rattle.notifyd.specs.declared.reply.Reply.TheVariants.{Answer, Mail, Audit, Queue, Items, Sweep, Dealt, NoDeal, Absorbed, Refused, KeeperFault, OutOfMemory}
+use Rattle.notifyd.specs.HubWords.{queue_words, items_words, sweep_words, dealt_words, absorbed_words}
 use Rattle.notifyd.specs.Words.{line_of, answer_words, mail_words, count_words, refusal_words}
 
 -- the line of a reply, with its line feed
@@ -15,6 +15,7 @@ reply_text (Items items) = line_of (items_words items)
 reply_text (Sweep answer) = line_of (sweep_words answer)
 reply_text (Dealt deal verdicts) = line_of (dealt_words deal verdicts)
 reply_text NoDeal = line_of (codes "no deal")
+reply_text (Absorbed answer) = line_of (absorbed_words answer)
 reply_text (Refused refusal) = line_of (refusal_words refusal)
 reply_text KeeperFault = line_of (codes "fault keeper")
 reply_text OutOfMemory = line_of (codes "out of memory")

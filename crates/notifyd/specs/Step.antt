@@ -12,6 +12,7 @@ use Rattle.office.specs.declared.answer.MailAnswer.TheVariants.{Mailed, NotDue}
 use Rattle.office.specs.Office.{answer_of}
 use Rattle.notifyd.specs.World.{World, world, stamp_now, with_event}
 pub use Rattle.notifyd.specs.Stepped.{Step}
+use Rattle.notifyd.specs.AbsorbStep.{next_absorbed, absorbed_step}
 use Rattle.notifyd.specs.HubStep.{for_known, register_step, beat_step, acked_step, left_step, swept_step, dealt_step}
 use Rattle.presence_queues.specs.Hub.{queue_at, overdue_user}
 use Rattle.notice_ledger.specs.Deals.{deal}
@@ -49,3 +50,4 @@ clean_step w (line.Ack user queue upto) = for_known w user (acked_step (queue_at
 clean_step w (line.Leave user queue) = for_known w user (left_step (queue_at w.hub user queue) w user)
 clean_step w line.Sweep = swept_step (overdue_user w.hub w.clock) w
 clean_step w line.Deal = dealt_step (deal w.journal w.hub.next) w
+clean_step w line.Absorb = absorbed_step (next_absorbed w) w

@@ -8,7 +8,8 @@ use Rattle.notice_ledger.specs.Deals.{run_number}
 use Rattle.presence_queues.specs.Hub.{HubSeen}
 use Rattle.presence_queues.specs.Steps.{new_hub}
 
--- a world: the journal, the hub, and the clock in seconds
+-- a world: the journal, the hub, and the clock in seconds. What was taken of the hub's outcomes is no part of it: the
+-- journal says what was absorbed
 pub record World : Type 0 where
   pub journal : List Stamped
   pub hub : HubSeen
@@ -16,6 +17,10 @@ pub record World : Type 0 where
 
 abbrev pub world : List Stamped → HubSeen → ℕ → World
 world journal hub clock = record { journal = journal; hub = hub; clock = clock }
+
+-- a hub, of which nothing counts as taken
+abbrev pub untaken : HubSeen → HubSeen
+untaken hub = record hub { taken = [] }
 
 -- the hub that a start makes: of the journal's run, and with its next deal; nothing was sent
 abbrev pub fresh_hub : List Stamped → HubSeen

@@ -2,7 +2,7 @@
 //! the line.
 ghost use Rattle.std.specs.Prelude.{◌≤◌, length, IsUtf8};
 ghost use Rattle.notifyd.specs.Fault.{IsRead};
-ghost use Rattle.notifyd.specs.Grammar.{register_line, beat_line, ack_line, leave_line, sweep_line, deal_line, hub_reading};
+ghost use Rattle.notifyd.specs.Grammar.{register_line, beat_line, ack_line, leave_line, sweep_line, deal_line, absorb_line, hub_reading};
 
 use crate::fields::Fields;
 use crate::line::{Line, LineFault, MAX_LINE};
@@ -29,6 +29,8 @@ pub fn read_hub(line: &[u8]) -> Result<Line, LineFault>
         read_sweep(&fields)
     } else if kind.bytes == b"deal".as_slice() {
         read_deal(&fields)
+    } else if kind.bytes == b"absorb".as_slice() {
+        read_absorb(&fields)
     } else {
         Err(kind.fault())
     }
@@ -87,4 +89,12 @@ fn read_deal(fields: &Fields<'_>) -> Result<Line, LineFault>
 {
     fields.end()?;
     Ok(Line::Deal)
+}
+
+#[tactic(auto, unfolding(crate::specs::Grammar::absorb_line))]
+fn read_absorb(fields: &Fields<'_>) -> Result<Line, LineFault>
+    ensures { IsRead (absorb_line fields.now.line fields.now.place) result }
+{
+    fields.end()?;
+    Ok(Line::Absorb)
 }

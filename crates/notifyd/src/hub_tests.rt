@@ -1,4 +1,4 @@
-//! Whole scripts with the lines of the hub. Nothing absorbs what the hub says yet.
+//! Whole scripts with the lines of the hub, of which nothing is absorbed.
 use crate::run_tests::expect_opened;
 use std::test::Fail;
 

@@ -1,9 +1,10 @@
 //! The words in which the steps of the hub are answered.
 ghost use Rattle.std.specs.Prelude.{◌≡◌};
-ghost use Rattle.notifyd.specs.HubWords.{queue_words, items_words, sweep_words, dealt_words};
+ghost use Rattle.notifyd.specs.HubWords.{queue_words, items_words, sweep_words, dealt_words, outcome_words, absorbed_words};
 
 use crate::words::{Part, Words};
-use chat_model::{DealNo, List, QueueId, UserVerdict};
+use chat_model::{DealNo, List, Outcome, QueueId, UserVerdict};
+use office::Absorbed;
 use presence_queues::{QueueItem, SweepAnswer};
 
 /// The id of a queue that was registered.
@@ -53,4 +54,40 @@ pub fn dealt_words(number: DealNo, verdicts: &List<UserVerdict>) -> Words<'_>
         Part::Word(" "),
         Part::Verdicts(verdicts.as_slice()),
     ])
+}
+
+fn outcome_words(outcome: &Outcome) -> Words<'_>
+    ensures { result ≡ outcome_words outcome.now }
+{
+    match outcome {
+        Outcome::Dealt { deal, .. } => {
+            Words::of(&[Part::Word("absorbed dealt "), Part::Number(deal.0)])
+        }
+        Outcome::Cleared { user, deals, queue } => Words::of(&[
+            Part::Word("absorbed cleared "),
+            Part::Number(user.0),
+            Part::Word(" "),
+            Part::Deals(deals.as_slice()),
+            Part::Word(" by "),
+            Part::Number(queue.run),
+            Part::Word(":"),
+            Part::Number(queue.number),
+        ]),
+        Outcome::Missed { user, deals } => Words::of(&[
+            Part::Word("absorbed missed "),
+            Part::Number(user.0),
+            Part::Word(" "),
+            Part::Deals(deals.as_slice()),
+        ]),
+    }
+}
+
+/// What became of an absorption.
+pub fn absorbed_words(answer: &Absorbed) -> Words<'_>
+    ensures { result ≡ absorbed_words answer.now }
+{
+    match answer {
+        Absorbed::Outcome(outcome) => outcome_words(outcome),
+        Absorbed::NothingWaiting => Words::word("nothing waiting"),
+    }
 }

@@ -48,6 +48,8 @@ pub enum Line {
     Sweep,
     /// The next deal is dealt.
     Deal,
+    /// The next outcome is absorbed.
+    Absorb,
 }
 
 /// Why a line was not read.

@@ -3,12 +3,12 @@ ghost use Rattle.std.specs.Prelude.{◌≡◌, ◌≤◌, ◌++◌, codes, OnOk,
 ghost use Rattle.std.specs.String.{string_bytes};
 ghost use Rattle.chat_model.specs.Counts.{HasRisen};
 ghost use Rattle.notifyd.specs.Tokens.{token_text};
-ghost use Rattle.notifyd.specs.Pieces.{texts_of, rest_text, list_text, item_text, verdict_text, verdict_word};
+ghost use Rattle.notifyd.specs.Pieces.{texts_of, rest_text, list_text, item_text, verdict_text, verdict_word, deal_text};
 ghost use Rattle.notifyd.specs.Sink.{WritesFront, GoesOut};
 
 use crate::Sink;
 use crate::line_buffer::LineBuffer;
-use chat_model::{Failed, OutOfMemory, UserVerdict, Verdict};
+use chat_model::{DealNo, Failed, OutOfMemory, UserVerdict, Verdict};
 use itoa::Buffer;
 use presence_queues::QueueItem;
 
@@ -68,6 +68,21 @@ impl Piece for UserVerdict {
             Token::Number(self.user.0),
             Token::Word("="),
             Token::Word(verdict_word(self.verdict)),
+        ]
+    }
+}
+
+impl Piece for DealNo {
+    ghost text = { deal_text };
+
+    fn tokens<'a>(&self, before: &'a str) -> [Token<'a>; 4]
+        ensures { texts_of token_text result ≡ before.now ++ deal_text self.now }
+    {
+        [
+            Token::Word(before),
+            Token::Number(self.0),
+            Token::Word(""),
+            Token::Word(""),
         ]
     }
 }

@@ -6,7 +6,9 @@ ghost use Rattle.notifyd.specs.Grammar.{reading};
 ghost use Rattle.notifyd.specs.Sink.{WritesFront};
 ghost use Rattle.notifyd.specs.Run.{Wrote};
 ghost use Rattle.notifyd.specs.Cut.{completes};
-ghost use Rattle.notifyd.specs.World.{world};
+ghost use Rattle.notifyd.specs.World.{world, untaken};
+ghost use Rattle.notifyd.specs.PipeLaw.{KeepsPipeLaw};
+ghost use Rattle.office.specs.Absorbing.{reached};
 ghost use Rattle.notifyd.specs.Play.{IsStep, PlaysLine, answer_text, is_keeper_fault, is_out_of_memory};
 ghost use Rattle.notifyd.specs.Status.{KeptIsConserved};
 ghost use Rattle.notifyd.specs.Going.{Goes, HasBegun, standing, ended_so};
@@ -50,14 +52,15 @@ pub struct Play<'a, K: Keeper, O: Sink> {
 
 impl<'a, K: Keeper, O: Sink> Model for Play<'a, K, O> {
     ghost use Rattle.std.specs.Prelude.{◌+◌, ◌≤◌, length};
-    ghost use Rattle.notifyd.specs.World.{world};
+    ghost use Rattle.notifyd.specs.World.{world, untaken};
+    ghost use Rattle.notifyd.specs.PipeLaw.{KeepsPipeLaw};
     ghost use Rattle.notifyd.specs.Cut.{max_script};
     ghost use Rattle.notifyd.specs.Playing.{Playing};
 
     ghost Value = { Playing };
 
     ghost view = { λ p. record {
-      world = world p.office.journal p.hub p.clock;
+      world = world p.office.journal (untaken p.hub) p.clock;
       met = p.met;
       number = p.number;
       taken = p.taken;
@@ -69,7 +72,7 @@ impl<'a, K: Keeper, O: Sink> Model for Play<'a, K, O> {
       sink = p.out.ghost_name;
     } };
 
-    ghost invariant = { λ p. (p.number + length p.line ≤ p.taken) × (p.taken ≤ max_script) };
+    ghost invariant = { λ p. (p.number + length p.line ≤ p.taken) × (p.taken ≤ max_script) × KeepsPipeLaw p.hub p.office };
 }
 
 /// How a play goes on.
@@ -83,6 +86,7 @@ pub enum Next<'a, K: Keeper, O: Sink> {
 
 fn ask<K: Keeper>(office: &mut Office<K>, clock: Moment, request: Request) -> Reply
     ensures step { (hub : HubSeen) → IsStep (world office.old.journal hub clock) (Line.Asked request) (Some result) (world office.new.journal hub clock) }
+    ensures reached { reached office.new ≡ reached office.old }
     ensures told { is_some (K.kept office.new.keeper) ≡ is_some (K.kept office.old.keeper) }
     ensures cause { result ≡ Reply.KeeperFault → HasRisen (K.faults office.old.keeper) (K.faults office.new.keeper) }
     ensures count { K.faults office.old.keeper ≤ K.faults office.new.keeper }
@@ -98,6 +102,7 @@ fn ask<K: Keeper>(office: &mut Office<K>, clock: Moment, request: Request) -> Re
 
 fn mail<K: Keeper>(office: &mut Office<K>, clock: Moment) -> Reply
     ensures step { (hub : HubSeen) → IsStep (world office.old.journal hub clock) Line.Mail (Some result) (world office.new.journal hub clock) }
+    ensures reached { reached office.new ≡ reached office.old }
     ensures told { is_some (K.kept office.new.keeper) ≡ is_some (K.kept office.old.keeper) }
     ensures cause { result ≡ Reply.KeeperFault → HasRisen (K.faults office.old.keeper) (K.faults office.new.keeper) }
     ensures count { K.faults office.old.keeper ≤ K.faults office.new.keeper }
@@ -105,6 +110,22 @@ fn mail<K: Keeper>(office: &mut Office<K>, clock: Moment) -> Reply
 {
     match office.mail_turn(clock) {
         Ok(answer) => Reply::Mail(answer),
+        Err(StepFault::KeeperFault) => Reply::KeeperFault,
+        Err(StepFault::OutOfMemory) => Reply::OutOfMemory,
+    }
+}
+
+fn absorb<K: Keeper>(office: &mut Office<K>, hub: &mut Hub<PlainPipe>, clock: Moment) -> Reply
+    requires law { KeepsPipeLaw hub.old office.old }
+    ensures law { KeepsPipeLaw hub.new office.new }
+    ensures step { IsStep (world office.old.journal (untaken hub.old) clock) Line.Absorb (Some result) (world office.new.journal (untaken hub.new) clock) }
+    ensures told { is_some (K.kept office.new.keeper) ≡ is_some (K.kept office.old.keeper) }
+    ensures cause { result ≡ Reply.KeeperFault → HasRisen (K.faults office.old.keeper) (K.faults office.new.keeper) }
+    ensures count { K.faults office.old.keeper ≤ K.faults office.new.keeper }
+    ensures most { K.faults office.new.keeper ≤ K.faults office.old.keeper + cond (is_keeper_fault (Some result)) 1 0 }
+{
+    match office.absorb(hub, clock) {
+        Ok(answer) => Reply::Absorbed(answer),
         Err(StepFault::KeeperFault) => Reply::KeeperFault,
         Err(StepFault::OutOfMemory) => Reply::OutOfMemory,
     }
@@ -220,6 +241,7 @@ impl<'a, K: Keeper, O: Sink> Play<'a, K, O> {
             )),
             Line::Sweep => Some(sweep(&mut self.hub, self.clock)),
             Line::Deal => Some(deal(&self.office, &mut self.hub, self.clock)),
+            Line::Absorb => Some(absorb(&mut self.office, &mut self.hub, self.clock)),
         }
     }
 

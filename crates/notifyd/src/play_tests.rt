@@ -1,11 +1,13 @@
 //! A play that was made by hand, and one of which each line is compared with the slow computation.
 use super::*;
 use crate::ending::Met;
+use crate::hook_tests::HOOK;
 use crate::hub_tests::HUB;
+use crate::kept_tests::RUNS;
 use crate::play::{Next, Play};
 use crate::preference_tests::{PREFERENCES, opened};
 use crate::request_tests::{NOTICES, REQUESTS};
-use crate::run_tests::{IDLE, OPENING, lines_and_answers};
+use crate::run_tests::{ABSORBED_NEXT, IDLE, OPENING, lines_and_answers};
 use crate::under_way::UnderWay;
 use chat_model::{Cause, Counts, List, MessageId, Moment, Stamped, UserId, Way};
 use keeper::MemoryKeeper;
@@ -127,25 +129,48 @@ fn expect_slow_counts<R: Abort + AllocGlobal>(rt: &R, office: &Office<MemoryKeep
     assert_eq!(rt; by_account, Ok(counts));
 }
 
-// Plays the lines, and compares the counts behind each.
-fn follow<R: Abort + AllocGlobal>(rt: &R, play: Play<'_, MemoryKeeper, MemorySink>, lines: &[u8]) {
-    let mut play = play;
-    for line in lines.split_inclusive(|byte| *byte == b'\n') {
-        play = go_on(rt, play, line);
-        expect_slow_counts(rt, &play.office);
-    }
+fn expect_slow<R: Abort + AllocGlobal>(rt: &R, play: &Play<'_, MemoryKeeper, MemorySink>) {
+    expect_slow_counts(rt, &play.office);
 }
 
-// Plays a worked script, and compares the counts behind each line.
-fn follow_worked<R: Abort + AllocGlobal>(rt: &R, worked: &str) -> Result<(), Fail> {
+// Plays the lines, and compares the counts before them and behind each.
+fn follow<'a, R: Abort + AllocGlobal>(
+    rt: &R,
+    play: Play<'a, MemoryKeeper, MemorySink>,
+    lines: &[u8],
+) -> Play<'a, MemoryKeeper, MemorySink> {
+    let mut play = play;
+    expect_slow(rt, &play);
+    for line in lines.split_inclusive(|byte| *byte == b'\n') {
+        play = go_on(rt, play, line);
+        expect_slow(rt, &play);
+    }
+    play
+}
+
+// Plays a worked script over a keeper, compares the counts behind the start and behind each line, and gives the keeper
+// back.
+fn follow_over<R: Abort + AllocGlobal>(
+    rt: &R,
+    keeper: MemoryKeeper,
+    worked: &str,
+) -> Result<MemoryKeeper, Fail> {
     let alloc = rt.alloc();
     let (lines, _) = lines_and_answers(alloc, worked)?;
     let mut sink = MemorySink::new(alloc, 4_096, List::new(alloc))?;
-    let keeper = MemoryKeeper::new(alloc, List::new(alloc));
     match Play::start(alloc, keeper, &mut sink) {
-        Ok(play) => follow(rt, play, lines.as_slice()),
-        Err(_) => panic!(rt; "no start"),
+        Ok(play) => {
+            let Play { office, .. } = follow(rt, play, lines.as_slice());
+            Ok(office.close())
+        }
+        Err(_) => Err(Fail::from("no start")),
     }
+}
+
+// Plays a worked script over nothing, and compares the counts behind each line.
+fn follow_worked<R: Abort + AllocGlobal>(rt: &R, worked: &str) -> Result<(), Fail> {
+    let keeper = MemoryKeeper::new(rt.alloc(), List::new(rt.alloc()));
+    follow_over(rt, keeper, worked)?;
     Ok(())
 }
 
@@ -172,8 +197,30 @@ fn the_slow_computation_agrees_behind_each_line(rt: HostRuntime) -> Result<(), F
     for rows in HUB {
         follow_opened(&rt, rows)?;
     }
+    for rows in HOOK {
+        follow_opened(&rt, rows)?;
+    }
     for rows in PREFERENCES {
         follow_counted(&rt, rows)?;
+    }
+    Ok(())
+}
+
+#[test]
+fn the_slow_computation_agrees_behind_a_fault(rt: HostRuntime) -> Result<(), Fail> {
+    let alloc = rt.alloc();
+    let worked = format!(in alloc; "{OPENING}{ABSORBED_NEXT}")?;
+    let mut failing = List::new(alloc);
+    failing.push(9)?;
+    follow_over(&rt, MemoryKeeper::new(alloc, failing), worked.as_str())?;
+    Ok(())
+}
+
+#[test]
+fn the_slow_computation_agrees_over_starts(rt: HostRuntime) -> Result<(), Fail> {
+    let mut keeper = MemoryKeeper::new(rt.alloc(), List::new(rt.alloc()));
+    for (script, _) in RUNS {
+        keeper = follow_over(&rt, keeper, script)?;
     }
     Ok(())
 }

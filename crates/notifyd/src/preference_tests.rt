@@ -13,17 +13,37 @@ fn push_ready(worked: &mut String, ready: &str) -> Result<(), AllocError> {
     worked.push_str(" handed=0 read=0 deleted=0 off=0 live=0 entries=0 waiting=0 written=0\n")
 }
 
-/// The opening and these rows, where `ready N` stands for the line of counts at which N notices are ready.
+// The lines by which a deal is dealt and absorbed, given with its number and its verdicts.
+fn push_dealt(worked: &mut String, deal: &str, verdicts: &str) -> Result<(), AllocError> {
+    worked.push_str("deal => dealt ")?;
+    worked.push_str(deal)?;
+    worked.push_str(" ")?;
+    worked.push_str(verdicts)?;
+    worked.push_str("\nabsorb => absorbed dealt ")?;
+    worked.push_str(deal)?;
+    worked.push_str("\n")
+}
+
+// A row as it is, or what it stands for.
+fn push_row(worked: &mut String, row: &str) -> Result<(), AllocError> {
+    if let Some(ready) = row.strip_prefix("ready ") {
+        return push_ready(worked, ready);
+    }
+    if let Some(dealt) = row.strip_prefix("dealt ") {
+        if let Some((deal, verdicts)) = dealt.split_once(" ") {
+            return push_dealt(worked, deal, verdicts);
+        }
+    }
+    worked.push_str(row)?;
+    worked.push_str("\n")
+}
+
+/// The opening and these rows, where `ready N` stands for the line of counts at which N notices are ready, and
+/// `dealt K LIST` for the lines by which deal K is dealt with these verdicts and absorbed.
 pub fn opened(alloc: Global, rows: &str) -> Result<String, AllocError> {
     let mut worked = String::from_str(alloc, OPENING)?;
     for row in rows.lines() {
-        match row.strip_prefix("ready ") {
-            Some(ready) => push_ready(&mut worked, ready)?,
-            None => {
-                worked.push_str(row)?;
-                worked.push_str("\n")?;
-            }
-        }
+        push_row(&mut worked, row)?;
     }
     Ok(worked)
 }
@@ -33,25 +53,30 @@ fn expect_counted<R: Abort + AllocGlobal>(rt: &R, rows: &str) -> Result<(), Fail
     expect_worked(rt, worked.as_str(), 4_096, &NEVER, 0)
 }
 
-/// Each goes behind the opening, with `ready N` for the line of counts at which N notices are ready.
+/// Each goes behind the opening, with `ready N` and `dealt K LIST` for the lines that they stand for.
 pub const PREFERENCES: [&str; 10] = [
     r#"# An unmuted topic of a muted channel, a direct message, and a muted sender.
 set 2 channel_mail on => ok
 chan 2 1 muted on => ok
 policy 2 1 "x" unmuted => ok
 send 1 1 "X" "plain" => sent 1 deal 0
+dealt 0 2=idle
 ready 1
 chan 2 1 mail off => ok
 send 1 1 "x" "plain" => sent 2 deal 1
+dealt 1 -
 ready 1
 dm 1 2 "lunch?" => sent 3 deal 2
+dealt 2 2=idle
 ready 3
 mute 2 1 on => ok
 dm 1 2 "?" => sent 4 deal 3
+dealt 3 -
 ready 3
 "#,
     r#"# What a turn finds switched off is dropped.
 send 1 1 "lunch" "hi @**Ben**" => sent 1 deal 0
+dealt 0 2=idle
 set 2 mail_mentions off => ok
 at 220
 mail => mailed 2 entries=0 dropped=1
@@ -63,41 +88,55 @@ chan 2 1 mail on => ok
 chan 2 1 push on => ok
 policy 2 1 "x" followed => ok
 send 1 1 "x" "plain" => sent 1 deal 0
+dealt 0 2=idle
 ready 2
 set 2 followed_mail off => ok
 set 2 followed_push off => ok
 send 1 1 "x" "plain" => sent 2 deal 1
+dealt 1 -
 ready 2
 send 1 1 "x" "@**all**" => sent 3 deal 2
+dealt 2 2=idle
 ready 4
 set 2 followed_wildcards off => ok
 send 1 1 "x" "@**all**" => sent 4 deal 3
+dealt 3 -
 ready 4
 send 1 1 "y" "@**all**" => sent 5 deal 4
+dealt 4 -
 ready 4
 send 1 1 "y" "@**Ben**" => sent 6 deal 5
+dealt 5 2=idle
 ready 6
 "#,
     r#"# The setting for the channel comes before the account's.
 chan 2 1 wildcards off => ok
 send 1 1 "x" "@**all**" => sent 1 deal 0
+dealt 0 -
 ready 0
 set 2 wildcards off => ok
 chan 2 1 wildcards on => ok
 send 1 1 "x" "@**all**" => sent 2 deal 1
+dealt 1 2=idle
 ready 2
 chan 2 1 wildcards default => ok
 send 1 1 "x" "@**all**" => sent 3 deal 2
+dealt 2 -
 ready 2
 "#,
     r#"# Who only received takes no part, and who sent does from then on, also in another case.
 send 1 1 "x" "@**topic**" => sent 1 deal 0
+dealt 0 -
 send 1 1 "x" "@**topic**" => sent 2 deal 1
+dealt 1 -
 ready 0
 send 2 1 "X" "hello" => sent 3 deal 2
+dealt 2 -
 send 1 1 "x" "@**topic**" => sent 4 deal 3
+dealt 3 2=idle
 ready 2
 send 1 1 "y" "@**topic**" => sent 5 deal 4
+dealt 4 -
 ready 2
 "#,
     r#"# Neither the sender nor a bot is notified, and a user who muted the sender isn't.
@@ -105,44 +144,55 @@ bot "Cy" => user 3
 sub 3 1 on => ok
 mute 2 1 on => ok
 send 1 1 "x" "@**Ada** @**Ben** @**Cy** @**all**" => sent 1 deal 0
+dealt 0 -
 dm 1 1,2,3 "x" => sent 2 deal 1
+dealt 1 -
 ready 0
 mute 2 1 off => ok
 send 1 1 "x" "@**Ada** @**Ben** @**Cy** @**all**" => sent 3 deal 2
+dealt 2 2=idle
 ready 2
 "#,
     r#"# To oneself, to several, and to an unknown user.
 user "Cy" => user 3
 dm 1 1 "x" => sent 1 deal 0
+dealt 0 -
 ready 0
 dm 1 3,2,1,3 "x" => sent 2 deal 1
+dealt 1 2=idle,3=idle
 ready 4
 dm 1 2,9 "x" => refused 10
 dm 9 2 "x" => refused 10
 dm 1 2 " " => refused 17
 dm 1 2 "@**all** @**topic**" => sent 3 deal 2
+dealt 2 2=idle
 ready 6
 set 2 mail_mentions off => ok
 set 2 push_mentions off => ok
 dm 1 2 "@**Ben** @**all**" => sent 4 deal 3
+dealt 3 -
 ready 6
 "#,
     r#"# Policies on topics that differ in case: the last counts.
 policy 2 1 "Lunch" muted => ok
 set 2 channel_mail on => ok
 send 1 1 "lunch" "plain" => sent 1 deal 0
+dealt 0 -
 ready 0
 policy 2 1 "lUNCH" inherit => ok
 send 1 1 "LUNCH" "plain" => sent 2 deal 1
+dealt 1 2=idle
 ready 1
 "#,
     r#"# Who was unsubscribed just before is no recipient.
 set 2 channel_mail on => ok
 sub 2 1 off => ok
 send 1 1 "x" "@**Ben** @**all**" => sent 1 deal 0
+dealt 0 -
 sub 2 1 on => ok
 ready 0
 send 1 1 "x" "plain" => sent 2 deal 1
+dealt 1 2=idle
 ready 1
 "#,
     r#"# Each refusal of what is set.
@@ -167,11 +217,12 @@ fn settings_policies_and_mutes_decide_who_is_notified(rt: HostRuntime) -> Result
     Ok(())
 }
 
-// Plays the opening, rows by which Ben sets something, and messages, behind which so many notices of Ben are ready.
+// Plays the opening, rows by which Ben sets something, and messages, of which the last makes this deal; behind its
+// absorption so many notices of Ben are ready.
 fn expect_ready<R: Abort + AllocGlobal>(
     rt: &R,
     set: &[&str],
-    sent: &str,
+    (sent, deal): (&str, &str),
     ready: &str,
 ) -> Result<(), Fail> {
     let mut worked = String::from_str(rt.alloc(), OPENING)?;
@@ -179,13 +230,23 @@ fn expect_ready<R: Abort + AllocGlobal>(
         worked.push_str(line)?;
         worked.push_str(" => ok\n")?;
     }
-    worked.push_str(sent)?;
+    for row in sent.lines() {
+        push_row(&mut worked, row)?;
+    }
+    if ready == "0" {
+        push_dealt(&mut worked, deal, "-")?;
+    } else {
+        push_dealt(&mut worked, deal, "2=idle")?;
+    }
     push_ready(&mut worked, ready)?;
     expect_worked(rt, worked.as_str(), 4_096, &NEVER, 0)
 }
 
-const PLAIN: &str = r#"send 1 1 "x" "plain" => sent 1 deal 0
-"#;
+const PLAIN: (&str, &str) = (
+    r#"send 1 1 "x" "plain" => sent 1 deal 0
+"#,
+    "0",
+);
 
 // Whether the channel is muted, the policy, whether the account's switch is on, and the notices. A followed topic
 // notifies by following, which is switched off here.
@@ -237,18 +298,31 @@ const NO_FOLLOWED_WILDCARDS: &str = "set 2 followed_wildcards off";
 
 const FOLLOWED: &str = r#"policy 2 1 "x" followed"#;
 
-const DIRECT: &str = r#"dm 1 2 "x" => sent 1 deal 0
-"#;
+const DIRECT: (&str, &str) = (
+    r#"dm 1 2 "x" => sent 1 deal 0
+"#,
+    "0",
+);
 
-const MENTION: &str = r#"send 1 1 "x" "@**Ben**" => sent 1 deal 0
-"#;
+const MENTION: (&str, &str) = (
+    r#"send 1 1 "x" "@**Ben**" => sent 1 deal 0
+"#,
+    "0",
+);
 
-const TOPIC: &str = r#"send 2 1 "x" "hello" => sent 1 deal 0
+const TOPIC: (&str, &str) = (
+    r#"send 2 1 "x" "hello" => sent 1 deal 0
+dealt 0 -
 send 1 1 "x" "@**topic**" => sent 2 deal 1
-"#;
+"#,
+    "1",
+);
 
-const ALL: &str = r#"send 1 1 "x" "@**all**" => sent 1 deal 0
-"#;
+const ALL: (&str, &str) = (
+    r#"send 1 1 "x" "@**all**" => sent 1 deal 0
+"#,
+    "0",
+);
 
 // Each trigger alone, by both ways, and by one way where the switch of the other is off.
 #[test]

@@ -7,12 +7,12 @@ ghost use Rattle.notifyd.specs.Words.{line_of, answer_words, mail_words, count_w
 ghost use Rattle.notifyd.specs.Reply.{reply_text};
 
 use crate::Sink;
-use crate::hub_words::{dealt_words, items_words, queue_words, sweep_words};
+use crate::hub_words::{absorbed_words, dealt_words, items_words, queue_words, sweep_words};
 use crate::words::{Part, Words};
 use chat_model::{
     Answer, Counts, DealNo, Failed, List, OutOfMemory, QueueId, Refusal, Text, UserVerdict,
 };
-use office::MailAnswer;
+use office::{Absorbed, MailAnswer};
 use presence_queues::{QueueItem, SweepAnswer};
 use std::alloc::Global;
 
@@ -38,6 +38,8 @@ pub enum Reply {
     },
     /// The hub has dealt all deals.
     NoDeal,
+    /// An outcome was absorbed, or none waited.
+    Absorbed(Absorbed),
     /// A request broke a rule.
     Refused(Refusal),
     /// The keeper failed.
@@ -76,6 +78,7 @@ fn reply_words(reply: &Reply) -> Words<'_>
         Reply::Sweep(answer) => sweep_words(answer),
         Reply::Dealt { deal, verdicts } => dealt_words(*deal, verdicts),
         Reply::NoDeal => Words::word("no deal"),
+        Reply::Absorbed(answer) => absorbed_words(answer),
         Reply::Refused(refusal) => refusal_words(refusal),
         Reply::KeeperFault => Words::word("fault keeper"),
         Reply::OutOfMemory => Words::word("out of memory"),

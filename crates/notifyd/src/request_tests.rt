@@ -56,10 +56,14 @@ group "ops" 2,2 => group 1
 member 1 1 on => ok
 member 1 2 off => ok
 send 1 1 "a" "@*OPS* x" => sent 1 deal 0
+deal => dealt 0 -
+absorb => absorbed dealt 0
 audit => audit flight=0 held=0 ready=0 handed=0 read=0 deleted=0 off=0 live=0 entries=0 waiting=0 written=0
 "#,
     r#"group "ops" 2,1 => group 1
 send 1 1 "lunch" "ask @*Ops*" => sent 1 deal 0
+deal => dealt 0 2=idle
+absorb => absorbed dealt 0
 audit => audit flight=0 held=0 ready=2 handed=0 read=0 deleted=0 off=0 live=0 entries=0 waiting=0 written=0
 at 219
 mail => not due 220
@@ -69,13 +73,21 @@ mail => not due -
 "#,
     r#"# All of a channel, by each of its words, once for each way.
 send 1 1 "a" "@**all** @**everyone** @**topic**" => sent 1 deal 0
+deal => dealt 0 2=idle
+absorb => absorbed dealt 0
 audit => audit flight=0 held=0 ready=2 handed=0 read=0 deleted=0 off=0 live=0 entries=0 waiting=0 written=0
 "#,
     r#"# Marks and line feeds in a text.
 send 1 1 "a" "one `|` two\n_three_ > four ~" => sent 1 deal 0
+deal => dealt 0 -
+absorb => absorbed dealt 0
 send 1 1 "a" "`@**Ben**` @_**Ben**\n> @**Ben**" => sent 2 deal 1
+deal => dealt 1 -
+absorb => absorbed dealt 1
 audit => audit flight=0 held=0 ready=0 handed=0 read=0 deleted=0 off=0 live=0 entries=0 waiting=0 written=0
 send 1 1 "a" "> no\n@**Ben|2**" => sent 3 deal 2
+deal => dealt 2 2=idle
+absorb => absorbed dealt 2
 audit => audit flight=0 held=0 ready=2 handed=0 read=0 deleted=0 off=0 live=0 entries=0 waiting=0 written=0
 "#,
 ];

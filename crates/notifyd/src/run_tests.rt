@@ -135,6 +135,8 @@ pub fn expect_opened<R: Abort + AllocGlobal>(rt: &R, rows: &str) -> Result<(), F
 /// Behind the opening, Ada mentions Ben, who is mailed once the period is over.
 pub const IDLE: &str = r#"# Ada mentions Ben.
 send 1 1 "lunch" "hi @**Ben**" => sent 1 deal 0
+deal => dealt 0 2=idle
+absorb => absorbed dealt 0
 audit => audit flight=0 held=0 ready=2 handed=0 read=0 deleted=0 off=0 live=0 entries=0 waiting=0 written=0
 at 219
 mail => not due 220
@@ -185,6 +187,28 @@ user "Ben" => fault source"#;
     let worked = r#"user "Ada" => user 1
 user "Ben""#;
     expect_worked(&rt, worked, 4_096, &sink, 4)
+}
+
+/// Behind the opening, an outcome whose absorption fails, as the keeper's ninth call does: the start makes the first two,
+/// the opening five more, and the send one.
+pub const ABSORBED_NEXT: &str = r#"send 1 1 "lunch" "hi @**Ben**" => sent 1 deal 0
+deal => dealt 0 2=idle
+absorb => fault keeper
+audit => audit flight=2 held=0 ready=0 handed=0 read=0 deleted=0 off=0 live=0 entries=0 waiting=0 written=0
+at 130
+absorb => absorbed dealt 0
+absorb => nothing waiting
+mail => not due 250
+"#;
+
+#[test]
+fn an_outcome_whose_absorption_failed_is_absorbed_next(rt: HostRuntime) -> Result<(), Fail> {
+    let worked = format!(in rt.alloc(); "{OPENING}{ABSORBED_NEXT}")?;
+    let keeper = Failing {
+        keeper: &[9],
+        ..NEVER
+    };
+    expect_worked(&rt, worked.as_str(), 4_096, &keeper, 5)
 }
 
 #[test]

@@ -4,7 +4,7 @@ use chat_model::{
     Answer, ChannelId, Counts, DealNo, Failed, GroupId, List, MessageId, Refusal, Request, RowKey,
     UserId,
 };
-use office::MailAnswer;
+use office::{Absorbed, MailAnswer};
 use std::process::Abort;
 use std::test::Fail;
 
@@ -99,6 +99,10 @@ fn replies_have_their_texts(rt: HostRuntime) -> Result<(), Fail> {
             "refused 23 limit 10000\n",
         ),
         (Reply::Refused(Refusal::BadName), "refused 25\n"),
+        (
+            Reply::Absorbed(Absorbed::NothingWaiting),
+            "nothing waiting\n",
+        ),
         (Reply::KeeperFault, "fault keeper\n"),
         (Reply::OutOfMemory, "out of memory\n"),
     ];
@@ -169,7 +173,7 @@ fn last_lines_have_their_texts(rt: HostRuntime) -> Result<(), Fail> {
 
 #[test]
 fn bad_lines_have_their_columns(rt: HostRuntime) -> Result<(), Fail> {
-    let rows: [(&[u8], Column); 33] = [
+    let rows: [(&[u8], Column); 34] = [
         (b"at", 3),
         (b"hello", 1),
         (b"user \"Ada", 6),
@@ -193,6 +197,7 @@ fn bad_lines_have_their_columns(rt: HostRuntime) -> Result<(), Fail> {
         (b"ack 2 1:1 x\n", 11),
         (b"leave 2 :1\n", 9),
         (b"deal 1\n", 6),
+        (b"absorb all\n", 8),
         (b"bot Cy\n", 5),
         (b"set 2 period 5\n", 7),
         (b"set 2 wildcards default\n", 17),

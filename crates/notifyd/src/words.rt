@@ -10,7 +10,7 @@ ghost use Rattle.notifyd.specs.Words.{line_of};
 use crate::Sink;
 use crate::line_buffer::LineBuffer;
 use crate::pieces::{print_list, write_list};
-use chat_model::{Failed, OutOfMemory, Text, UserVerdict};
+use chat_model::{DealNo, Failed, OutOfMemory, Text, UserVerdict};
 use itoa::Buffer;
 use presence_queues::QueueItem;
 use std::alloc::Global;
@@ -26,6 +26,7 @@ pub enum Part<'a> {
     Number(u64),
     Items(&'a [QueueItem]),
     Verdicts(&'a [UserVerdict]),
+    Deals(&'a [DealNo]),
 }
 
 /// The words of a line, which contracts see as their text.
@@ -108,6 +109,7 @@ fn print_part(text: &mut String, part: &Part<'_>) -> Result<(), OutOfMemory>
         Part::Number(number) => text.push_str(Buffer::new().format(*number))?,
         Part::Items(items) => print_list(text, items)?,
         Part::Verdicts(verdicts) => print_list(text, verdicts)?,
+        Part::Deals(deals) => print_list(text, deals)?,
     }
     Ok(())
 }
@@ -139,5 +141,6 @@ fn write_part<O: Sink>(out: &mut O, line: &mut LineBuffer, part: &Part<'_>) -> R
         Part::Number(number) => line.push_str(out, Buffer::new().format(*number)),
         Part::Items(items) => write_list(out, line, items),
         Part::Verdicts(verdicts) => write_list(out, line, verdicts),
+        Part::Deals(deals) => write_list(out, line, deals),
     }
 }

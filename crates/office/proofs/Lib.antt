@@ -1,3 +1,4 @@
 pub mod Differences
 pub mod Offices
 pub mod Conserved
+pub mod Reaching

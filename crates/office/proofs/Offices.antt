@@ -59,10 +59,10 @@ loaded_kept (Some k) loaded same agree = (ap (λ (x : Kept). x.journal) (sym sam
 pub loaded_office : (told : Option Kept) (loaded : Kept) (t : Tables) → StandsFor t loaded.journal → IfSome told (λ k. loaded ≡ k) → loaded.rows ≡ rows loaded.journal → IsOffice told loaded.journal t
 loaded_office told loaded t stands same agree = record { tables = stands; kept = loaded_kept told loaded same agree }
 
-both_hold : (a b : Bool) → a ≡ true → b ≡ true → (a && b) ≡ true
+pub both_hold : (a b : Bool) → a ≡ true → b ≡ true → (a && b) ≡ true
 both_hold a b h k = rw (h, k)
 
-not_below : (last now at : ℕ) → at ≡ max now last → nat_le last at ≡ true
+pub not_below : (last now at : ℕ) → at ≡ max now last → nat_le last at ≡ true
 not_below last now at e = grind (arith, nat_tests)
 
 -- a request that is not refused is lawful once its lists are in order, at a stamp that is not below the last one

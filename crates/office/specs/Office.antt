@@ -1,5 +1,11 @@
 -- What an office is seen as, and what its calls answer.
-use Rattle.std.specs.Prelude.{◌≡◌, ℕ, ◌+◌, ◌<◌, ◌≤◌, List, [], ◌∷◌, ◌++◌, Option, Some, IfSome, option_map, length}
+use Rattle.std.specs.Prelude.{◌≡◌, ℕ, ◌+◌, ◌<◌, ◌≤◌, Bool, true, ◌&&◌, ◌||◌, not, cond, List, [], ◌∷◌, ◌++◌, Option, Some, IfSome, is_some, option_map, length}
+use Rattle.chat_model.specs.declared.deal.Outcome.{Outcome}
+use Rattle.chat_model.specs.declared.event.Event.{Event}
+use Rattle.notice_ledger.specs.Deals.{is_fresh}
+use Rattle.notice_ledger.specs.Past.Journal.{outcome_of}
+use Rattle.notice_ledger.specs.Past.Runs.{is_restart}
+use Rattle.notice_ledger.specs.Past.Values.{makes_deal}
 use Rattle.chat_model.specs.declared.event.Stamped.{Stamped}
 use Rattle.chat_model.specs.declared.event.Event.TheVariants.{Restart, MailTurn}
 use Rattle.chat_model.specs.declared.row.Row.{Row}
@@ -15,9 +21,10 @@ use Rattle.book_tables.specs.declared.tables.Tables.{Tables}
 use Rattle.book_tables.specs.Tables.{StandsFor}
 pub use Rattle.book_tables.specs.Answers.{answer_of}
 
--- an office is seen as its journal and its keeper
+-- an office is seen as its journal, the outcome that was taken and isn't absorbed yet, and its keeper
 pub record OfficeSeen (K : Type 0) : Type 0 where
   pub journal : List Stamped
+  pub in_hand : Option Outcome
   pub keeper : K
 
 -- what is kept stands for a list of events: the kept journal is the list, and the kept rows are the list's
@@ -28,6 +35,17 @@ KeptStandsFor j kept = (kept.journal ≡ j) × (kept.rows ≡ rows j)
 pub record IsOffice (told : Option Kept) (j : List Stamped) (t : Tables) : Type 0 where
   pub tables : StandsFor t j
   pub kept : IfSome told (KeptStandsFor j)
+
+-- the tables and what is kept, where that is told, stand for the journal of an open office, and it is known whether the
+-- journal is fresh
+pub record IsOpen (told : Option Kept) (j : List Stamped) (t : Tables) (unused : Bool) : Type 0 where
+  pub tables : StandsFor t j
+  pub kept : IfSome told (KeptStandsFor j)
+  pub unused_is : unused ≡ is_fresh j
+
+-- an event more makes a journal fresh where it is a start, and ends that where it makes a deal or absorbs an outcome
+abbrev pub fresh_after : Bool → Event → Bool
+fresh_after fresh event = cond (is_restart event) true (fresh && not (makes_deal event || is_some (outcome_of event)))
 
 -- an office has started over a journal, which stands for what is kept where that is told, and a restart follows it
 pub record HasStarted (told : Option Kept) (now : ℕ) (j : List Stamped) : Type 0 where

@@ -1,5 +1,5 @@
 //! What the office answers, and why it cannot.
-use chat_model::{OutOfMemory, Refusal, Row, UserId};
+use chat_model::{OutOfMemory, Outcome, Refusal, Row, UserId};
 use keeper::KeepFault;
 use std::alloc::AllocError;
 
@@ -29,7 +29,7 @@ pub enum AskFault {
     OutOfMemory,
 }
 
-/// Why a step was not made. The office is as it was.
+/// Why a step was not made. The office is as it was, but for the outcome in hand.
 #[derive(Clone, Copy, Debug, PartialEq, Eq)]
 pub enum StepFault {
     /// The keeper failed, and its count of faults rose.
@@ -49,6 +49,15 @@ pub enum MailAnswer {
     },
     /// Nothing is due. The least due moment is carried, in seconds, or `None` where there is none.
     NotDue(Option<u64>),
+}
+
+/// What an absorption did.
+#[derive(Debug, PartialEq, Eq, Drop)]
+pub enum Absorbed {
+    /// The outcome was absorbed.
+    Outcome(Outcome),
+    /// No outcome was in hand, and none was taken.
+    NothingWaiting,
 }
 
 impl From<OutOfMemory> for StepFault {

@@ -1,44 +1,52 @@
 //! The office: it adds lawful events to the journal, keeps them, and follows them with its tables.
-ghost use Rattle.std.specs.Prelude.{◌≡◌, ℕ, ◌+◌, ◌≤◌, ◌<◌, ◌↔◌, [], ◌∷◌, ◌++◌, length, true, max, IfOk, IfErr, IfSome, IsNone, OnOk, OnErr, Ok, Option, Some, None, List, option_map, is_some};
+ghost use Rattle.std.specs.Prelude.{◌≡◌, ℕ, ◌+◌, ◌≤◌, ◌<◌, ◌↔◌, [], ◌∷◌, ◌++◌, length, true, max, ◌&&◌, IfOk, IfErr, IfSome, IsNone, OnOk, OnErr, Ok, Option, Some, None, List, option_map, is_some, is_none};
 ghost use Rattle.chat_model.specs.Counts.{HasRisen};
 ghost use Rattle.chat_model.specs.declared.event.Event.TheVariants.{Restart, Asked};
 ghost use Rattle.chat_model.specs.declared.request.Refusal.{Refusal};
 ghost use Rattle.chat_model.specs.declared.row.Row.{Row};
+ghost use Rattle.keeper.specs.Kept.{committed};
 ghost use Rattle.notice_ledger.specs.Journal.{stamp, last_stamp};
 ghost use Rattle.notice_ledger.specs.Refusals.{refusal};
 ghost use Rattle.notice_ledger.specs.InOrder.{in_order};
 ghost use Rattle.notice_ledger.specs.Lawful.{is_lawful_after};
 ghost use Rattle.notice_ledger.specs.Conserved.{IsConserved};
-ghost use Rattle.office.specs.Office.{IsOffice, KeptStandsFor, HasStarted, HasDisagreed};
+ghost use Rattle.notice_ledger.specs.Past.Values.{makes_deal};
+ghost use Rattle.office.specs.Office.{IsOffice, fresh_after, KeptStandsFor, HasStarted, HasDisagreed};
 ghost use Rattle.office.specs.Faults.{faults_in_step, faults_in_ask, faults_in_start};
 
 use crate::load::{Replayed, load_kept};
-use crate::{AskFault, MailAnswer, StartFault, StepFault};
+use crate::{Absorbed, AskFault, MailAnswer, StartFault, StepFault};
 use book_tables::{DueUser, Tables};
 use chat_model::{
-    Answer, Counts, Deal, DealNo, Event, Moment, OutOfMemory, Refusal, Request, Stamped, UserId,
+    Answer, Counts, Deal, DealNo, Event, Moment, OutOfMemory, Outcome, Refusal, Request, RowChange,
+    Stamped, UserId,
 };
 use keeper::Keeper;
+use missed_hook::Take;
 use notice_ledger::in_order;
 use std::alloc::Global;
 use std::marker::Model;
 
-/// A journal of lawful events, the tables that follow from it, and the keeper that keeps both.
+/// A journal of lawful events, the tables that follow from it, and the keeper that keeps both; and an outcome that was
+/// taken and isn't absorbed yet.
 #[derive(Drop)]
 pub struct Office<K: Keeper> {
     keeper: K,
     journal: Vec<Stamped>,
     tables: Tables,
+    in_hand: Option<Outcome>,
+    /// Whether no deal was made and no outcome absorbed since the start.
+    unused: bool,
 }
 
 impl<K: Keeper> Model for Office<K> {
-    ghost use Rattle.office.specs.Office.{OfficeSeen, IsOffice};
+    ghost use Rattle.office.specs.Office.{OfficeSeen, IsOpen};
 
     ghost Value = { OfficeSeen K };
 
-    ghost view = { λ o. record { journal = o.journal.items; keeper = o.keeper } };
+    ghost view = { λ o. record { journal = o.journal.items; in_hand = o.in_hand; keeper = o.keeper } };
 
-    ghost invariant = { λ o. IsOffice (K.kept o.keeper) o.journal.items o.tables };
+    ghost invariant = { λ o. IsOpen (K.kept o.keeper) o.journal.items o.tables o.unused };
 }
 
 /// The later of two moments.
@@ -46,6 +54,23 @@ fn later(a: Moment, b: Moment) -> Moment
     ensures { result ≡ max a b }
 {
     if a < b { b } else { a }
+}
+
+/// Keeps an event and its changes of the rows, whole or not at all.
+fn commit<K: Keeper>(
+    keeper: &mut K,
+    stamped: &Stamped,
+    changes: &[RowChange],
+) -> Result<(), StepFault>
+    ensures ok { OnOk result (K.kept keeper.new ≡ option_map (committed stamped.now changes.now) (K.kept keeper.old)) }
+    ensures err { OnErr result (K.kept keeper.new ≡ K.kept keeper.old) }
+    ensures told { is_some (K.kept keeper.new) ≡ is_some (K.kept keeper.old) }
+    ensures fault { IfErr result (λ e. e ≡ StepFault.KeeperFault → HasRisen (K.faults keeper.old) (K.faults keeper.new)) }
+    ensures counted { K.faults keeper.old ≤ K.faults keeper.new }
+    ensures most { K.faults keeper.new ≤ K.faults keeper.old + faults_in_step result }
+{
+    keeper.commit(stamped, changes)?;
+    Ok(())
 }
 
 /// Keeps an event and follows it. A fault or want of memory changes nothing.
@@ -70,14 +95,35 @@ fn record_event<K: Keeper>(
     let prepared = tables.prepare(&stamped)?;
     tables.reserve(&prepared)?;
     journal.reserve(1)?;
-    keeper.commit(&stamped, prepared.changes())?;
+    commit(keeper, &stamped, prepared.changes())?;
     tables.apply(prepared);
     journal.push_reserved(stamped);
     Ok(())
 }
 
+/// Whether a message is sent by the request.
+fn sends(request: &Request) -> bool
+    ensures { result ≡ makes_deal (Asked request.now) }
+{
+    matches!(request, Request::Send { .. } | Request::Direct { .. })
+}
+
+/// Whether no deal was made and no outcome absorbed since the start, after an event more.
+fn unused_after(unused: bool, event: &Event) -> bool
+    ensures { result ≡ fresh_after unused event.now }
+{
+    match event {
+        Event::Restart => true,
+        Event::Absorbed(_) => false,
+        Event::Asked(request) => unused && !sends(request),
+        Event::MailTurn(_) => unused,
+    }
+}
+
 impl<K: Keeper> Office<K> {
     ghost use Rattle.office.specs.Office.{answer_of, NoneIsDue, least_due, IsMailTurn};
+    ghost use Rattle.office.specs.Absorbing.{reached, Uses, HasAbsorbed, IsAbsorption};
+    ghost use Rattle.notice_ledger.specs.Deals.{is_fresh};
     ghost use Rattle.book_tables.specs.Tables.{found_due};
     ghost use Rattle.notice_ledger.specs.Due.{first_due, batch_rows};
     ghost use Rattle.notice_ledger.specs.Outbox.{outbox};
@@ -90,6 +136,8 @@ impl<K: Keeper> Office<K> {
     /// stamp. The kept rows have to be those of the journal. Each fault hands the keeper back.
     pub fn start(alloc: Global, keeper: K, now: Moment) -> Result<Office<K>, (StartFault, K)>
         ensures ok { IfOk result (λ o. HasStarted (K.kept keeper) now o.journal) }
+        ensures reached { IfOk result (λ o. reached o ≡ []) }
+        ensures nothing_in_hand { IfOk result (λ o. o.in_hand ≡ None) }
         ensures err { IfErr result (λ e. K.kept e.1 ≡ K.kept keeper) }
         ensures fault { IfErr result (λ e. e.0 ≡ StartFault.KeeperFault → HasRisen (K.faults keeper) (K.faults e.1)) }
         ensures disagree { IfErr result (λ e. (kept replayed : Option Row) → e.0 ≡ StartFault.Disagree kept replayed → HasDisagreed (K.kept keeper) kept replayed) }
@@ -112,6 +160,8 @@ impl<K: Keeper> Office<K> {
                 keeper,
                 journal,
                 tables,
+                in_hand: None,
+                unused: true,
             }),
             Err(fault) => Err((StartFault::from(fault), keeper)),
         }
@@ -166,6 +216,13 @@ impl<K: Keeper> Office<K> {
         ensures { result ≡ knows self.now.journal user }
     {
         self.tables.knows(user)
+    }
+
+    /// Whether no deal was made and no outcome absorbed since the start, and none is in hand.
+    pub fn is_fresh(&self) -> bool
+        ensures { result ≡ (is_fresh self.now.journal && is_none self.now.in_hand) }
+    {
+        self.unused && self.in_hand.is_none()
     }
 
     /// A copy of the deal of a number, for the hub.
@@ -229,18 +286,22 @@ impl<K: Keeper> Office<K> {
         requires lawful { is_lawful_after self.old.journal stamped ≡ true }
         ensures ok { OnOk result (self.new.journal ≡ self.old.journal ++ stamped ∷ []) }
         ensures err { OnErr result (self.new.journal ≡ self.old.journal) }
+        ensures in_hand { self.new.in_hand ≡ self.old.in_hand }
         ensures kept { OnErr result (K.kept self.new.keeper ≡ K.kept self.old.keeper) }
         ensures told { is_some (K.kept self.new.keeper) ≡ is_some (K.kept self.old.keeper) }
         ensures fault { IfErr result (λ e. e ≡ StepFault.KeeperFault → HasRisen (K.faults self.old.keeper) (K.faults self.new.keeper)) }
         ensures counted { K.faults self.old.keeper ≤ K.faults self.new.keeper }
         ensures most { K.faults self.new.keeper ≤ K.faults self.old.keeper + faults_in_step result }
     {
+        let unused = unused_after(self.unused, &stamped.event);
         record_event(
             &mut self.keeper,
             &mut self.journal,
             &mut self.tables,
             stamped,
-        )
+        )?;
+        self.unused = unused;
+        Ok(())
     }
 
     /// Grants a request, or refuses it by the first rule that it breaks. The event keeps the request's lists ascending,
@@ -250,6 +311,8 @@ impl<K: Keeper> Office<K> {
             × (self.new.journal ≡ self.old.journal ++ record { at = stamp self.old.journal now; event = Asked (in_order request) } ∷ [])) }
         ensures refused { (n : Refusal) → (result ≡ Err (AskFault.Refused n)) ↔ (refusal self.old.journal request ≡ Some n) }
         ensures unchanged { (n : Refusal) → result ≡ Err (AskFault.Refused n) → self.new ≡ self.old }
+        ensures reached { reached self.new ≡ reached self.old }
+        ensures in_hand { self.new.in_hand ≡ self.old.in_hand }
         ensures err { OnErr result ((self.new.journal ≡ self.old.journal) × (K.kept self.new.keeper ≡ K.kept self.old.keeper)) }
         ensures told { is_some (K.kept self.new.keeper) ≡ is_some (K.kept self.old.keeper) }
         ensures fault { IfErr result (λ e. e ≡ AskFault.KeeperFault → HasRisen (K.faults self.old.keeper) (K.faults self.new.keeper)) }
@@ -266,12 +329,65 @@ impl<K: Keeper> Office<K> {
         Ok(answer)
     }
 
+    /// Takes the next outcome in hand, where none is.
+    fn hold<T: Take>(&mut self, take: &mut T)
+        ensures uses { Uses T.took self.old.in_hand take.old self.new.in_hand take.new }
+        ensures same { self.new ≡ record self.old { in_hand = self.new.in_hand } }
+        ensures reached { T.taken take.old ≡ reached self.old → T.taken take.new ≡ reached self.new }
+    {
+        if self.in_hand.is_none() {
+            self.in_hand = take.take();
+        }
+    }
+
+    /// Absorbs the outcome in hand.
+    fn absorb_in_hand(&mut self, now: Moment) -> Result<Absorbed, StepFault>
+        ensures came { IsAbsorption self.old.journal (stamp self.old.journal now) self.old.in_hand result self.new.journal self.new.in_hand }
+        ensures reached { reached self.new ≡ reached self.old }
+        ensures kept { OnErr result (K.kept self.new.keeper ≡ K.kept self.old.keeper) }
+        ensures unchanged { result ≡ Ok Absorbed.NothingWaiting → self.new ≡ self.old }
+        ensures told { is_some (K.kept self.new.keeper) ≡ is_some (K.kept self.old.keeper) }
+        ensures fault { IfErr result (λ e. e ≡ StepFault.KeeperFault → HasRisen (K.faults self.old.keeper) (K.faults self.new.keeper)) }
+        ensures counted { K.faults self.old.keeper ≤ K.faults self.new.keeper }
+        ensures most { K.faults self.new.keeper ≤ K.faults self.old.keeper + faults_in_step result }
+    {
+        let Some(outcome) = &self.in_hand else {
+            return Ok(Absorbed::NothingWaiting);
+        };
+        let event = Event::Absorbed(outcome.copy(*self.journal.allocator())?);
+        let at = self.stamp(now);
+        self.record(Stamped { at, event })?;
+        match self.in_hand.take() {
+            Some(outcome) => Ok(Absorbed::Outcome(outcome)),
+            None => unreachable!(),
+        }
+    }
+
+    /// Absorbs the outcome in hand, or else the next one that is taken. After a fault the outcome is in hand, and the next
+    /// call uses it. Where there is none it takes no memory.
+    pub fn absorb<T: Take>(&mut self, take: &mut T, now: Moment) -> Result<Absorbed, StepFault>
+        ensures absorbed { HasAbsorbed T.took take.old take.new self.old (stamp self.old.journal now) result self.new }
+        // What was taken is what was absorbed since the last start, then the outcome in hand, if it was so before.
+        ensures law { T.taken take.old ≡ reached self.old → T.taken take.new ≡ reached self.new }
+        ensures kept { OnErr result (K.kept self.new.keeper ≡ K.kept self.old.keeper) }
+        ensures unchanged { result ≡ Ok Absorbed.NothingWaiting → self.new ≡ self.old }
+        ensures told { is_some (K.kept self.new.keeper) ≡ is_some (K.kept self.old.keeper) }
+        ensures fault { IfErr result (λ e. e ≡ StepFault.KeeperFault → HasRisen (K.faults self.old.keeper) (K.faults self.new.keeper)) }
+        ensures counted { K.faults self.old.keeper ≤ K.faults self.new.keeper }
+        ensures most { K.faults self.new.keeper ≤ K.faults self.old.keeper + faults_in_step result }
+    {
+        self.hold(take);
+        self.absorb_in_hand(now)
+    }
+
     /// Hands over the due mails of the user with the least due moment, ties by the lower number.
     pub fn mail_turn(&mut self, now: Moment) -> Result<MailAnswer, StepFault>
         ensures answered { IfOk result (λ a. IsMailTurn self.old.journal (stamp self.old.journal now) a self.new.journal) }
         // Where nothing is due it takes no memory, so the answer is promised.
         ensures not_due { NoneIsDue self.old.journal (stamp self.old.journal now) → result ≡ Ok (MailAnswer.NotDue (least_due self.old.journal)) }
         ensures unchanged { IfOk result (λ a. (least : Option ℕ) → a ≡ MailAnswer.NotDue least → self.new ≡ self.old) }
+        ensures reached { reached self.new ≡ reached self.old }
+        ensures in_hand { self.new.in_hand ≡ self.old.in_hand }
         ensures err { OnErr result ((self.new.journal ≡ self.old.journal) × (K.kept self.new.keeper ≡ K.kept self.old.keeper)) }
         ensures told { is_some (K.kept self.new.keeper) ≡ is_some (K.kept self.old.keeper) }
         ensures fault { IfErr result (λ e. e ≡ StepFault.KeeperFault → HasRisen (K.faults self.old.keeper) (K.faults self.new.keeper)) }

@@ -1,9 +1,13 @@
 //! The office with ample memory, over a keeper in memory.
+use crate::test_team::{
+    absorb_said, add_user, assert_counts, cleared, counts, dealt, in_flight, missed, moment,
+    no_counts, send, subscription, team,
+};
 use crate::{AskFault, MailAnswer, Office, StartFault, StepFault};
 use chat_model::{
-    Answer, ChannelId, Conversation, Counts, DealNo, Entry, EntryNo, Event, GroupId, List,
-    MessageId, Moment, Refusal, Request, Row, RowChange, RowKey, Settings, Stage, Stamped, Text,
-    Trigger, UserId, Way, change_all,
+    Answer, ChannelId, Conversation, DealNo, Entry, EntryNo, Event, GroupId, List, MessageId,
+    Moment, Outcome, Refusal, Request, Row, RowChange, RowKey, Settings, Stage, Stamped, Text,
+    Trigger, UserId, Verdict, Way, change_all,
 };
 use keeper::{Keeper, Kept, MemoryKeeper};
 use notice_ledger::audit;
@@ -11,77 +15,23 @@ use std::alloc::Global;
 use std::process::Abort;
 use std::test::Fail;
 
-fn moment(rt: &impl Abort, seconds: u64) -> Moment {
-    Moment::new(seconds).expect(rt, "a moment")
-}
-
-fn add_user(alloc: Global, name: &str) -> Result<Request, Fail> {
-    let name = Text::from_str(alloc, name)?;
-    Ok(Request::AddUser { name, bot: false })
-}
-
-fn subscription(user: u64, on: bool) -> Request {
-    Request::Subscribe {
-        user: UserId(user),
-        channel: ChannelId(1),
-        on,
-    }
-}
-
-fn send(alloc: Global, sender: u64, channel: u64) -> Result<Request, Fail> {
-    Ok(Request::Send {
-        sender: UserId(sender),
-        channel: ChannelId(channel),
-        topic: Text::from_str(alloc, "lunch")?,
-        text: Text::from_str(alloc, "hi @**Ben**")?,
-    })
-}
-
-// Ada and Ben, both subscribed to a channel, on a keeper of which the calls of the list fail.
-fn team(rt: &impl Abort, alloc: Global, failing: List<u64>) -> Result<Office<MemoryKeeper>, Fail> {
-    let keeper = MemoryKeeper::new(alloc, failing);
-    let now = moment(rt, 0);
-    let Ok(mut office) = Office::start(alloc, keeper, now) else {
-        return Err(Fail::from("no start"));
-    };
-    let ada = office.ask(add_user(alloc, "Ada")?, now);
-    assert_eq!(rt; ada, Ok(Answer::User(UserId(1))));
-    let ben = office.ask(add_user(alloc, "Ben")?, now);
-    assert_eq!(rt; ben, Ok(Answer::User(UserId(2))));
-    let name = Text::from_str(alloc, "team")?;
-    let channel = office.ask(Request::AddChannel { name }, now);
-    assert_eq!(rt; channel, Ok(Answer::Channel(ChannelId(1))));
-    assert_eq!(rt; office.ask(subscription(1, true), now), Ok(Answer::Done));
-    assert_eq!(rt; office.ask(subscription(2, true), now), Ok(Answer::Done));
-    Ok(office)
-}
-
-// So many notices are ready, and so many were handed, each in an entry of its own.
-fn counts(ready: u64, handed: u64) -> Counts {
-    Counts {
-        flight: 0,
-        held: 0,
-        ready,
-        handed,
-        read: 0,
-        deleted: 0,
-        off: 0,
-        live: 0,
-        entries: handed,
-        waiting: 0,
-        written: 0,
-    }
-}
-
 #[test]
 fn a_mention_is_mailed_after_the_period(rt: HostRuntime) -> Result<(), Fail> {
     let alloc = rt.alloc();
     let mut office = team(&rt, alloc, List::new(alloc))?;
-    assert_eq!(rt; office.audit(), counts(0, 0));
+    assert_eq!(rt; office.audit(), no_counts());
     let sent = office.ask(send(alloc, 1, 1)?, moment(&rt, 100));
     let message = MessageId(1);
     let deal = DealNo(0);
     assert_eq!(rt; sent, Ok(Answer::Sent { message, deal }));
+    assert_eq!(rt; office.audit(), in_flight(2));
+    absorb_said(
+        &rt,
+        alloc,
+        &mut office,
+        100,
+        dealt(alloc, 0, Verdict::Idle)?,
+    )?;
     assert_eq!(rt; office.audit(), counts(2, 0));
     let early = office.mail_turn(moment(&rt, 219));
     assert_eq!(rt; early, Ok(MailAnswer::NotDue(Some(220))));
@@ -95,12 +45,12 @@ fn a_mention_is_mailed_after_the_period(rt: HostRuntime) -> Result<(), Fail> {
     let late = office.mail_turn(moment(&rt, 220));
     assert_eq!(rt; late, Ok(MailAnswer::NotDue(None)));
     assert_eq!(rt; office.audit(), counts(1, 1));
-    assert_eq!(rt; office.journal().len(), 8);
+    assert_eq!(rt; office.journal().len(), 9);
     let mut keeper = office.close();
     let Ok(kept) = keeper.load() else {
         return Err(Fail::from("no load"));
     };
-    assert_eq!(rt; kept.journal.len(), 8);
+    assert_eq!(rt; kept.journal.len(), 9);
     assert_eq!(rt; kept.rows.len(), 5);
     Ok(())
 }
@@ -188,6 +138,16 @@ fn a_mention_comes_by_the_smallest_group_of_the_user(rt: HostRuntime) -> Result<
         let sent = office.ask(message(alloc, text)?, now);
         assert!(rt; sent.is_ok());
     }
+    assert_eq!(rt; office.audit(), in_flight(8));
+    for deal in 0..4 {
+        absorb_said(
+            &rt,
+            alloc,
+            &mut office,
+            100,
+            dealt(alloc, deal, Verdict::Idle)?,
+        )?;
+    }
     assert_eq!(rt; office.audit(), counts(8, 0));
     let mailed = office.mail_turn(moment(&rt, 220));
     assert!(rt; mailed.is_ok());
@@ -207,6 +167,13 @@ fn a_smaller_group_of_others_does_not_count(rt: HostRuntime) -> Result<(), Fail>
     assert_eq!(rt; smaller, Ok(Answer::Group(GroupId(2))));
     let sent = office.ask(message(alloc, "@*ops* @*x*")?, now);
     assert!(rt; sent.is_ok());
+    absorb_said(
+        &rt,
+        alloc,
+        &mut office,
+        100,
+        dealt(alloc, 0, Verdict::Idle)?,
+    )?;
     let mailed = office.mail_turn(moment(&rt, 220));
     assert!(rt; mailed.is_ok());
     let groups = groups_of_entries(alloc, office)?;
@@ -254,7 +221,7 @@ fn a_membership_is_what_its_last_change_made_it(rt: HostRuntime) -> Result<(), F
         let sent = office.ask(message(alloc, "@*ops*")?, now);
         assert!(rt; sent.is_ok());
     }
-    assert_eq!(rt; office.audit(), counts(2, 0));
+    assert_eq!(rt; office.audit(), in_flight(2));
     Ok(())
 }
 
@@ -286,33 +253,41 @@ fn a_failed_commit_leaves_the_journal_the_counts_and_what_is_kept(
     let alloc = rt.alloc();
     let mut failing = List::new(alloc);
     failing.push(8)?;
-    failing.push(10)?;
+    failing.push(11)?;
     let mut office = team(&rt, alloc, failing)?;
     let fault = office.ask(send(alloc, 1, 1)?, moment(&rt, 100));
     assert_eq!(rt; fault, Err(AskFault::KeeperFault));
     assert_eq!(rt; office.journal().len(), 6);
-    assert_eq!(rt; office.audit(), counts(0, 0));
+    assert_eq!(rt; office.audit(), no_counts());
     let sent = office.ask(send(alloc, 1, 1)?, moment(&rt, 100));
     let message = MessageId(1);
     let deal = DealNo(0);
     assert_eq!(rt; sent, Ok(Answer::Sent { message, deal }));
+    absorb_said(
+        &rt,
+        alloc,
+        &mut office,
+        100,
+        dealt(alloc, 0, Verdict::Idle)?,
+    )?;
     let turn = office.mail_turn(moment(&rt, 220));
     assert_eq!(rt; turn, Err(StepFault::KeeperFault));
-    assert_eq!(rt; office.journal().len(), 7);
+    assert_eq!(rt; office.journal().len(), 8);
     assert_eq!(rt; office.audit(), counts(2, 0));
     let mut keeper = office.close();
     match keeper.load() {
-        Ok(kept) => assert_eq!(rt; kept.journal.len(), 7),
+        Ok(kept) => assert_eq!(rt; kept.journal.len(), 8),
         Err(_) => panic!(rt; "what is kept was not loaded"),
     }
     Ok(())
 }
 
-// What a run keeps that sent one mention at 100 and mailed it at 220: eight events and five rows.
+// What a run keeps that sent one mention at 100 to an idle user and mailed it at 220: nine events and five rows.
 fn mailed_once(rt: &impl Abort, alloc: Global) -> Result<MemoryKeeper, Fail> {
     let mut office = team(rt, alloc, List::new(alloc))?;
     let sent = office.ask(send(alloc, 1, 1)?, moment(rt, 100));
     assert!(rt; sent.is_ok());
+    absorb_said(rt, alloc, &mut office, 100, dealt(alloc, 0, Verdict::Idle)?)?;
     let mailed = office.mail_turn(moment(rt, 220));
     assert!(rt; mailed.is_ok());
     Ok(office.close())
@@ -324,14 +299,14 @@ fn goes_on(rt: &impl Abort, alloc: Global, keeper: MemoryKeeper) -> Result<(), F
         return Err(Fail::from("no start"));
     };
     assert_eq!(rt; office.last_stamp(), moment(rt, 220));
-    assert_eq!(rt; office.audit(), counts(1, 1));
-    assert_eq!(rt; audit(alloc, office.journal())?, office.audit());
+    assert_counts(rt, alloc, &office, counts(1, 1))?;
     let cy = office.ask(add_user(alloc, "Cy")?, moment(rt, 230));
     assert_eq!(rt; cy, Ok(Answer::User(UserId(3))));
     let sent = office.ask(send(alloc, 1, 1)?, moment(rt, 230));
     let message = MessageId(2);
     let deal = DealNo(1);
     assert_eq!(rt; sent, Ok(Answer::Sent { message, deal }));
+    absorb_said(rt, alloc, &mut office, 230, dealt(alloc, 1, Verdict::Idle)?)?;
     let early = office.mail_turn(moment(rt, 240));
     assert_eq!(rt; early, Ok(MailAnswer::NotDue(Some(350))));
     let due = office.mail_turn(moment(rt, 350));
@@ -400,7 +375,7 @@ fn disagreement(
         return Err(Fail::from("started"));
     };
     match keeper.load() {
-        Ok(unchanged) => assert_eq!(rt; unchanged.journal.len(), 8),
+        Ok(unchanged) => assert_eq!(rt; unchanged.journal.len(), 9),
         Err(_) => panic!(rt; "what is kept was not loaded"),
     }
     match fault {
@@ -497,43 +472,94 @@ fn a_start_disagrees_with_rows_changed_by_hand(rt: HostRuntime) -> Result<(), Fa
     Ok(())
 }
 
-// Asks, or makes a mail turn where nothing is asked. The slow computation counts then what the office counts.
-fn step(
+// The slow computation counts what the office counts.
+fn compare_counts(
+    rt: &impl Abort,
+    alloc: Global,
+    office: &Office<MemoryKeeper>,
+) -> Result<(), Fail> {
+    assert_eq!(rt; audit(alloc, office.journal())?, office.audit());
+    Ok(())
+}
+
+fn ask_and_compare(
     rt: &impl Abort,
     alloc: Global,
     office: &mut Office<MemoryKeeper>,
     seconds: u64,
-    request: Option<Request>,
+    request: Request,
 ) -> Result<(), Fail> {
-    let now = moment(rt, seconds);
-    match request {
-        Some(request) => {
-            let _ = office.ask(request, now);
-        }
-        None => {
-            let _ = office.mail_turn(now);
-        }
-    }
-    assert_eq!(rt; audit(alloc, office.journal())?, office.audit());
-    Ok(())
+    let asked = office.ask(request, moment(rt, seconds));
+    assert!(rt; asked.is_ok());
+    compare_counts(rt, alloc, office)
+}
+
+fn absorb_and_compare(
+    rt: &impl Abort,
+    alloc: Global,
+    office: &mut Office<MemoryKeeper>,
+    seconds: u64,
+    outcome: Outcome,
+) -> Result<(), Fail> {
+    absorb_said(rt, alloc, office, seconds, outcome)?;
+    compare_counts(rt, alloc, office)
+}
+
+fn mail_and_compare(
+    rt: &impl Abort,
+    alloc: Global,
+    office: &mut Office<MemoryKeeper>,
+    seconds: u64,
+) -> Result<(), Fail> {
+    let turn = office.mail_turn(moment(rt, seconds));
+    assert!(rt; turn.is_ok());
+    compare_counts(rt, alloc, office)
+}
+
+// Two mentions, of which the first reaches an idle user and the second is seen.
+fn first_steps(
+    rt: &impl Abort,
+    alloc: Global,
+    office: &mut Office<MemoryKeeper>,
+) -> Result<(), Fail> {
+    ask_and_compare(rt, alloc, office, 100, send(alloc, 1, 1)?)?;
+    absorb_and_compare(rt, alloc, office, 100, dealt(alloc, 0, Verdict::Idle)?)?;
+    mail_and_compare(rt, alloc, office, 219)?;
+    ask_and_compare(rt, alloc, office, 219, group(alloc, "ops", &[2])?)?;
+    ask_and_compare(
+        rt,
+        alloc,
+        office,
+        219,
+        message(alloc, "@*Ops*, please look")?,
+    )?;
+    absorb_and_compare(rt, alloc, office, 219, dealt(alloc, 1, Verdict::Live)?)?;
+    absorb_and_compare(rt, alloc, office, 219, cleared(alloc, 1)?)
+}
+
+// A mention that is missed after the mail of the first, and one of who isn't subscribed.
+fn last_steps(
+    rt: &impl Abort,
+    alloc: Global,
+    office: &mut Office<MemoryKeeper>,
+) -> Result<(), Fail> {
+    ask_and_compare(rt, alloc, office, 219, send(alloc, 1, 1)?)?;
+    absorb_and_compare(rt, alloc, office, 219, dealt(alloc, 2, Verdict::Live)?)?;
+    mail_and_compare(rt, alloc, office, 220)?;
+    absorb_and_compare(rt, alloc, office, 220, missed(alloc, 2)?)?;
+    ask_and_compare(rt, alloc, office, 220, subscription(2, false))?;
+    ask_and_compare(rt, alloc, office, 220, message(alloc, "@*Ops*")?)?;
+    mail_and_compare(rt, alloc, office, 339)
 }
 
 #[test]
 fn the_slow_counts_agree_after_each_step(rt: HostRuntime) -> Result<(), Fail> {
     let alloc = rt.alloc();
     let mut office = team(&rt, alloc, List::new(alloc))?;
-    let mut steps = Vec::new(alloc);
-    steps.push((100, Some(send(alloc, 1, 1)?)))?;
-    steps.push((219, None))?;
-    steps.push((219, Some(group(alloc, "ops", &[2])?)))?;
-    steps.push((219, Some(message(alloc, "@*Ops*, please look")?)))?;
-    steps.push((219, Some(subscription(2, false))))?;
-    steps.push((219, Some(message(alloc, "@*Ops*")?)))?;
-    steps.push((220, None))?;
-    steps.push((220, None))?;
-    for (seconds, request) in steps {
-        step(&rt, alloc, &mut office, seconds, request)?;
-    }
-    assert_eq!(rt; office.audit(), counts(2, 2));
+    first_steps(&rt, alloc, &mut office)?;
+    last_steps(&rt, alloc, &mut office)?;
+    let mut expected = counts(3, 1);
+    expected.live = 2;
+    assert_eq!(rt; office.audit(), expected);
     Ok(())
 }

@@ -1,16 +1,17 @@
 -- When a user's mails are due.
-use Rattle.std.specs.Prelude.{ℕ, ◌+◌, Bool, ◌&&◌, ◌==◌, nat_lt, List, Option, is_some, is_none, filter, option_map, if◌then◌else◌}
+use Rattle.std.specs.Prelude.{ℕ, ◌+◌, Bool, false, ◌&&◌, ◌==◌, nat_lt, List, Option, is_none, filter, option_map, if◌then◌else◌}
 use Rattle.std.specs.List.{filter_map, reduce}
+use Rattle.std.specs.Option.{option_map_or}
 use Rattle.chat_model.specs.declared.event.Stamped.{Stamped}
 use Rattle.chat_model.specs.declared.ids.UserId.{UserId}
 use Rattle.chat_model.specs.declared.trigger.Way.TheVariants.{Mail}
 use Rattle.notice_ledger.specs.Past.Journal.{Occurrence}
 use Rattle.notice_ledger.specs.Past.Values.{users, settings}
-use Rattle.notice_ledger.specs.Past.Owed.{Notice, notices, ready, turn, same_way}
+use Rattle.notice_ledger.specs.Past.Owed.{Notice, notices, ready, is_unbarred, turn, same_way}
 
--- a batch row of a user is a mail notice of the user with a ready event and no turn
+-- a batch row of a user is a mail notice of the user with a ready event, no bar before that event, and no turn
 abbrev pub is_batch_row : List Stamped → UserId → Notice → Bool
-is_batch_row j u n = n.user.0 == u.0 && same_way n.way Mail && (is_some (ready j n) && is_none (turn j n))
+is_batch_row j u n = n.user.0 == u.0 && same_way n.way Mail && (option_map_or (is_unbarred n) (ready j n) false && is_none (turn j n))
 
 -- a user's batch rows, in the order of the events that owe them
 abbrev pub batch_rows : List Stamped → UserId → List Notice

@@ -3,16 +3,17 @@ use Rattle.std.specs.Prelude.{ℕ, Bool, true, false, ◌&&◌, ◌==◌, nat_le
 use Rattle.std.specs.Option.{option_map_or}
 use Rattle.chat_model.specs.declared.event.Stamped.{Stamped}
 use Rattle.chat_model.specs.declared.event.Event.{Event}
-use Rattle.chat_model.specs.declared.event.Event.TheVariants.{Restart, Asked, MailTurn}
+use Rattle.chat_model.specs.declared.event.Event.TheVariants.{Restart, Asked, Absorbed, MailTurn}
 use Rattle.notice_ledger.specs.InOrder.{is_in_order}
 use Rattle.notice_ledger.specs.Past.Journal.{last_stamp}
 use Rattle.notice_ledger.specs.Past.Refusals.{refusal}
 use Rattle.notice_ledger.specs.Past.Due.{first_due}
 
 -- an event that may stand next, at a stamp: a request that is not refused and whose lists ascend, the mail turn of the user with the
--- least due moment once it is due, and a restart always
+-- least due moment once it is due, and a restart and an absorbed outcome always
 abbrev pub may_stand : List Stamped → ℕ → Event → Bool
 may_stand j at Restart = true
+may_stand j at (Absorbed outcome) = true
 may_stand j at (Asked request) = is_none (refusal j request) && is_in_order request
 may_stand j at (MailTurn user) = option_map_or (λ d. d.user.0 == user.0 && nat_le d.due at) (first_due j) false
 

@@ -1,5 +1,5 @@
 -- The outbox: the entries that the turns make, numbered from 1 in their order.
-use Rattle.std.specs.Prelude.{ℕ, nat_le, List, [], ◌∷◌, ◌++◌, option_map, map, if◌then◌else◌}
+use Rattle.std.specs.Prelude.{ℕ, nat_le, List, [], ◌∷◌, ◌++◌, is_none, option_map, map, filter, if◌then◌else◌}
 use Rattle.std.specs.List.{flat_map}
 use Rattle.chat_model.specs.declared.event.Stamped.{Stamped}
 use Rattle.chat_model.specs.declared.event.Event.{Event}
@@ -18,7 +18,7 @@ use Rattle.notice_ledger.specs.declared.destination.Destination.{Destination}
 use Rattle.notice_ledger.specs.declared.destination.Destination.TheVariants as destination
 use Rattle.notice_ledger.specs.Past.Journal.{occurrences}
 use Rattle.notice_ledger.specs.Past.Values.{user_name, group_name, channel_name}
-use Rattle.notice_ledger.specs.Past.Owed.{Notice, switch_on}
+use Rattle.notice_ledger.specs.Past.Owed.{Notice, bar, switch_on}
 use Rattle.notice_ledger.specs.Past.Due.{batch_rows}
 
 -- a group with its name
@@ -63,9 +63,13 @@ abbrev pub by_message : List Notice → List Notice
 by_message [] = []
 by_message (n ∷ ns) = put_by_message n (by_message ns)
 
--- the entries of a user's mail turn: the batch rows before it, where the mail switch is on before it
+-- the notices that a user's mail turn hands over: the batch rows before it that have no bar before it
+abbrev pub mailed : List Stamped → UserId → List Notice
+mailed j u = filter (λ n. is_none (bar j n)) (batch_rows j u)
+
+-- the entries of a user's mail turn, where the mail switch is on before it
 abbrev pub mail_entries : List Stamped → ℕ → UserId → List Entry
-mail_entries j at u = if switch_on j u ways.Mail then map (mail_entry j at) (by_message (batch_rows j u)) else []
+mail_entries j at u = if switch_on j u ways.Mail then map (mail_entry j at) (by_message (mailed j u)) else []
 
 -- the entries that an event at a stamp adds
 abbrev pub entries_by : List Stamped → ℕ → Event → List Entry

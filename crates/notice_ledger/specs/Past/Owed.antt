@@ -1,5 +1,5 @@
 -- Owed notices, and what becomes of each.
-use Rattle.std.specs.Prelude.{◌+◌, Bool, true, false, ◌&&◌, ◌==◌, List, [], ◌∷◌, Option, Some, option_and_then, is_some, is_none, length, find, filter, option_map, if◌then◌else◌}
+use Rattle.std.specs.Prelude.{ℕ, ◌+◌, Bool, true, false, not, ◌&&◌, ◌||◌, ◌==◌, List, [], ◌∷◌, Option, Some, None, option_and_then, is_some, is_none, length, find, filter, option_map, if◌then◌else◌}
 use Rattle.std.specs.Option.{option_map_or}
 use Rattle.std.specs.List.{filter_map, flat_map}
 use Rattle.chat_model.specs.declared.event.Stamped.{Stamped}
@@ -9,15 +9,19 @@ use Rattle.chat_model.specs.declared.ids.UserId.{UserId}
 use Rattle.chat_model.specs.declared.ids.GroupId.{GroupId}
 use Rattle.chat_model.specs.declared.ids.MessageId.{MessageId}
 use Rattle.chat_model.specs.declared.ids.DealNo.{DealNo}
+use Rattle.chat_model.specs.declared.deal.Outcome.{Outcome}
+use Rattle.chat_model.specs.declared.row.Cause.{Cause}
 use Rattle.chat_model.specs.declared.row.Cause.TheVariants.{SwitchedOff}
 use Rattle.chat_model.specs.declared.settings.Settings.{Settings}
 use Rattle.chat_model.specs.declared.trigger.Trigger.{Trigger}
 use Rattle.chat_model.specs.declared.trigger.Way.{Way}
 use Rattle.chat_model.specs.declared.trigger.Way.TheVariants.{Mail, Push}
+use Rattle.chat_model.specs.Outcomes.{is_dealt, is_dealt_live, is_dealt_idle, is_cleared, is_missed}
 use Rattle.chat_model.specs.Settings.{push_switch}
 use Rattle.notice_ledger.specs.declared.accounts.Account.{Account}
-use Rattle.notice_ledger.specs.declared.accounts.Account.TheVariants.{NotOwed, Flight, Ready, Handed, Cancelled, LiveQueue}
-use Rattle.notice_ledger.specs.Past.Journal.{Occurrence, occurrences, first_behind}
+use Rattle.notice_ledger.specs.declared.accounts.Account.TheVariants.{NotOwed, Flight, Held, Ready, Handed, Cancelled, LiveQueue}
+use Rattle.notice_ledger.specs.Past.Journal.{Occurrence, occurrences, first_behind, some_behind, absorbs}
+use Rattle.notice_ledger.specs.Past.Runs.{is_restart}
 use Rattle.notice_ledger.specs.Past.Values.{SentMessage, message_of, messages, users, deal_count, settings}
 use Rattle.notice_ledger.specs.Past.Triggers.{trigger, came_by}
 
@@ -69,9 +73,65 @@ owed_by o = option_map_or (owed_of o) (message_of o) []
 unfoldable pub notices : List Stamped → List Notice
 notices j = flat_map owed_by (occurrences j)
 
--- a notice is ready at the event that owes it
+-- ---- readiness
+
+-- the notice is a push to a user who wanted pushes while online at the event that owes it
+abbrev pub pushes_online : Notice → Bool
+pushes_online n = same_way n.way Push && (settings n.owing.past n.user).push_online
+
+-- an outcome that makes a notice of a user and a deal ready: the deal is dealt with Idle for the user, or with Live where
+-- the notice pushes to who is online, or it is missed for the user
+abbrev pub readies_by : UserId → DealNo → Bool → Outcome → Bool
+readies_by u k online o = is_dealt_idle u k o || (online && is_dealt_live u k o) || is_missed u k o
+
+-- an event that makes it ready: one that absorbs such an outcome, or a start of the office
+abbrev pub readies : UserId → DealNo → Bool → Event → Bool
+readies u k online e = is_restart e || absorbs (readies_by u k online) e
+
+-- an event that clears it: one that absorbs a clearing of the deal for the user
+abbrev pub clears : UserId → DealNo → Event → Bool
+clears u k e = absorbs (is_cleared u k) e
+
+-- the first event behind a place that makes it ready and before which none behind the place clears it
+abbrev pub ready_behind : ℕ → UserId → DealNo → Bool → List Stamped → Option Occurrence
+ready_behind place u k online j =
+    first_behind place (λ o. readies u k online o.event && not (some_behind place (λ p. clears u k p.event) o.past)) j
+
+-- a notice's ready event
 abbrev pub ready : List Stamped → Notice → Option Occurrence
-ready j n = Some n.owing
+ready j n = ready_behind n.owing.place n.user n.deal (pushes_online n) j
+
+-- an absorbed outcome cleared the notice
+abbrev pub was_cleared : List Stamped → Notice → Bool
+was_cleared j n = some_behind n.owing.place (λ o. clears n.user n.deal o.event) j
+
+-- the notice's deal was absorbed
+abbrev pub was_dealt : List Stamped → Notice → Bool
+was_dealt j n = some_behind n.owing.place (λ o. absorbs (is_dealt n.deal) o.event) j
+
+-- ---- bars
+
+-- the cause with which an event bars the notices of a user, a message and a way, if it bars them; none does yet
+unfoldable pub bar_cause : UserId → MessageId → Way → Occurrence → Option Cause
+bar_cause u m w o = None
+
+-- the first event behind a place that bars them
+abbrev pub bar_behind : ℕ → UserId → MessageId → Way → List Stamped → Option Occurrence
+bar_behind place u m w j = first_behind place (λ o. is_some (bar_cause u m w o)) j
+
+-- a notice's bar
+abbrev pub bar : List Stamped → Notice → Option Occurrence
+bar j n = bar_behind n.owing.place n.user n.number n.way j
+
+-- the cause of a notice's bar
+abbrev pub cause_of_bar : List Stamped → Notice → Option Cause
+cause_of_bar j n = option_and_then (bar_cause n.user n.number n.way) (bar j n)
+
+-- no bar of the notice stands before an event
+abbrev pub is_unbarred : Notice → Occurrence → Bool
+is_unbarred n o = is_none (bar o.past n)
+
+-- ---- turns
 
 -- an event is a mail turn of the user
 abbrev pub is_mail_turn_of : UserId → Event → Bool
@@ -101,13 +161,25 @@ switch_on j u w = turn_switch w (settings j u)
 abbrev pub decided : Notice → Occurrence → Account
 decided n t = if switch_on t.past n.user n.way then Handed else Cancelled SwitchedOff
 
--- a notice that had no turn is ready behind its ready event, else in flight
-abbrev pub undecided : List Stamped → Notice → Account
-undecided j n = if is_some (ready j n) then Ready else Flight
+-- ---- accounts
 
--- where an owed notice stands: by its turn, if it had one
+-- the table of accounts, of which the first row that applies holds: what a turn with no bar before it decided, a bar, a
+-- ready event, a clearing, an absorbed deal, and nothing of these
+abbrev pub account_by : Option Account → Option Cause → Bool → Bool → Bool → Account
+account_by (Some at_turn) barred is_ready cleared dealt = at_turn
+account_by None (Some cause) is_ready cleared dealt = Cancelled cause
+account_by None None true cleared dealt = Ready
+account_by None None false true dealt = LiveQueue
+account_by None None false false true = Held
+account_by None None false false false = Flight
+
+-- what a notice's turn decided, where no bar stands before it
+abbrev pub at_turn : List Stamped → Notice → Option Account
+at_turn j n = option_and_then (λ t. if is_unbarred n t then Some (decided n t) else None) (turn j n)
+
+-- where an owed notice stands
 abbrev pub account_of : List Stamped → Notice → Account
-account_of j n = option_map_or (decided n) (turn j n) (undecided j n)
+account_of j n = account_by (at_turn j n) (cause_of_bar j n) (is_some (ready j n)) (was_cleared j n) (was_dealt j n)
 
 -- where the notice of a user, a message and a way stands
 abbrev pub account : List Stamped → UserId → MessageId → Way → Account
@@ -119,6 +191,13 @@ is_cancelled (Cancelled cause) = true
 is_cancelled LiveQueue = true
 is_cancelled _ = false
 
--- the notices that had no turn yet
+-- a notice that is still to be handed over: in flight, held or ready
+abbrev pub is_pending : Account → Bool
+is_pending Flight = true
+is_pending Held = true
+is_pending Ready = true
+is_pending _ = false
+
+-- the notices that wait: those with a pending account
 unfoldable pub waiting : List Stamped → List Notice
-waiting j = filter (λ n. is_none (turn j n)) (notices j)
+waiting j = filter (λ n. is_pending (account_of j n)) (notices j)

@@ -1,8 +1,9 @@
-use Rattle.std.proofs.Common.{List, sym, subst}
+use Rattle.std.proofs.Common.{List, ℕ, sym, subst}
 use Rattle.chat_model.specs.declared.event.Stamped.{Stamped}
 use Rattle.notice_ledger.specs.Lawful.{lawful}
 use Rattle.notice_ledger.proofs.LawfulLemmas.{lawful-next}
 use Rattle.book_tables.specs.declared.tables.Tables.{Tables}
+use Rattle.book_tables.specs.Applied.{IsApplied}
 use Rattle.book_tables.specs.Tables.{Holds}
 use Rattle.book_tables.proofs.After.{holds_after, applied_at}
 use Rattle.book_tables.proofs.tables.Tables.apply.Goals as goal
@@ -11,4 +12,4 @@ pub returns : goal.returns
 returns c = λ j s h next fits.
     let new : Tables = record c.make.new.self { last = c.args.prepared.at } in
     subst (λ (k : List Stamped). Holds new k) (sym (lawful-next j s next))
-    (holds_after c.args.self.now new (lawful j) h s next c.args.prepared.effect fits.effect (applied_at c.args.self.now c.make.new.self c.args.prepared.at c.args.prepared.effect c.make.ensures) fits.at)
+    (holds_after c.args.self.now new (lawful j) h s next c.args.prepared.effect fits.effect (subst (λ (n : ℕ). IsApplied c.args.self.now new n c.args.prepared.effect) fits.at (applied_at c.args.self.now c.make.new.self c.args.prepared.at c.args.prepared.effect c.make.ensures)) fits.at)

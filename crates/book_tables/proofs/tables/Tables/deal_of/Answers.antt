@@ -5,14 +5,14 @@ use Rattle.chat_model.specs.declared.ids.UserId.{UserId}
 use Rattle.notice_ledger.specs.Past.Values.{messages, deal_count}
 use Rattle.notice_ledger.specs.Past.Owed.{Notice, owed_by}
 use Rattle.book_tables.specs.declared.tables.Waiting.{Waiting}
-use Rattle.book_tables.specs.Tables.{notice_kept}
+use Rattle.book_tables.specs.Tables.{in_flight}
 use Rattle.book_tables.proofs.Standing.{messages_long, messages_dealt}
 use Rattle.book_tables.proofs.tables.Tables.deal_of.Goals as goal
 
 abbrev made : ℕ → ℕ → List UserId → Deal
 made number message users = record { number = record { 0 = number }; message = record { 0 = message + 1 }; users = users }
 
-users_kept : (ns : List Notice) → map (λ (w : Waiting). w.user) (map notice_kept ns) ≡ map (λ (n : Notice). n.user) ns
+users_kept : (ns : List Notice) → map (λ (w : Waiting). w.user) (map in_flight ns) ≡ map (λ (n : Notice). n.user) ns
 users_kept [] = refl
 users_kept (n ∷ ns) = ap (λ us. n.user ∷ us) (users_kept ns)
 

@@ -1,16 +1,44 @@
-use Rattle.std.proofs.Common.{ap, ◌∙◌, ◌+◌}
-use Rattle.std.specs.Prelude.{Option, Some, option_map, find}
+use Rattle.std.proofs.Common.{List, ℕ, take, ap, sym, ◌∙◌, ◌+◌}
+use Rattle.std.specs.Prelude.{Option, Some, option_map}
+use Rattle.std.specs.Option.{option_map_or}
+use Rattle.std.specs.List.{reduce, filter_map}
+use Rattle.std.proofs.lemmas.List.{take_all}
+use Rattle.chat_model.specs.declared.ids.UserId.{UserId}
 use Rattle.notice_ledger.specs.Lawful.{lawful}
+use Rattle.notice_ledger.proofs.Stamps.{lawful-stamped}
 use Rattle.book_tables.specs.declared.tables.Waiting.{Waiting}
-use Rattle.book_tables.specs.Tables.{is_mail_to}
+use Rattle.book_tables.specs.Soonest.{ready_mail, lesser}
 use Rattle.book_tables.proofs.Standing.{due-there}
+use Rattle.book_tables.proofs.Steps.{take_next}
+use Rattle.book_tables.proofs.Soonest.{stamps-push, stamps-push_none}
+use Rattle.book_tables.proofs.tables.Tables.due.Goals.{in-Some, in_default}
 use Rattle.book_tables.proofs.tables.Tables.due.Goals as goal
 
-pub returns-in-Some : goal.returns-in-Some
-returns-in-Some c = λ j h.
+abbrev least : List Waiting → UserId → Option ℕ
+least ws u = reduce lesser (filter_map (ready_mail u) ws)
+
+pub loop-notice-preserved : goal.loop-notice-preserved
+loop-notice-preserved c =
+    let ws = c.deref-notice-items.result.now in let i = c.loop-notice.notice-index in let n = c.notice-item.result in let u = c.args.user in
+    let next = take_next ws i n c.loop-notice-test.true c.notice-item.is in
+    elim c.match-ready_mail.branch [
+      | in-Some w ↦
+          w.first-is
+          ∙ (ap Some (w.lesser.ensures ∙ ap (λ o. option_map_or (λ a. lesser a w.in-Some.ready) o w.in-Some.ready) c.loop-notice.invariant)
+          ∙ (sym (stamps-push u (take i ws) n w.in-Some.ready w.in-Some.ensures) ∙ ap (λ vs. least vs u) (sym next)))
+      | in_default w ↦
+          w.first-is ∙ (c.loop-notice.invariant ∙ (sym (stamps-push_none u (take i ws) n w.in_default.ensures) ∙ ap (λ vs. least vs u) (sym next)))
+    ]
+
+pub returns-in-Some-first : goal.returns-in-Some-first
+returns-in-Some-first c = λ j h.
+    let u = c.args.user in
     ap (λ s. Some (s + 120)) c.seconds.ensures.value
-    ∙ (ap (λ (o : Option Waiting). option_map (λ (w : Waiting). w.ready + 120) o) (c.in-Some.ensures ∙ ap (find (is_mail_to c.args.user)) c.deref.ensures.value) ∙ due-there c.args.self.now (lawful j) h c.args.user)
+    ∙ (ap (option_map (λ at. at + 120)) (sym c.in-Some-first.is ∙ (c.loop-notice.invariant ∙ ap (λ vs. least vs u) (take_all c.loop-notice.notice-index c.deref-notice-items.result.now c.loop-notice-test.false ∙ c.deref-notice-items.ensures.value)))
+    ∙ due-there c.args.self.now (lawful j) h (lawful-stamped j) u)
 
 pub returns-in-None : goal.returns-in-None
 returns-in-None c = λ j h.
-    ap (λ (o : Option Waiting). option_map (λ (w : Waiting). w.ready + 120) o) (c.in-None.ensures ∙ ap (find (is_mail_to c.args.user)) c.deref.ensures.value) ∙ due-there c.args.self.now (lawful j) h c.args.user
+    let u = c.args.user in
+    ap (option_map (λ at. at + 120)) (sym c.in-None.is ∙ (c.loop-notice.invariant ∙ ap (λ vs. least vs u) (take_all c.loop-notice.notice-index c.deref-notice-items.result.now c.loop-notice-test.false ∙ c.deref-notice-items.ensures.value)))
+    ∙ due-there c.args.self.now (lawful j) h (lawful-stamped j) u

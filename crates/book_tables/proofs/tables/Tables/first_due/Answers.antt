@@ -2,6 +2,8 @@ use Rattle.std.proofs.Common.{take, sym, ap, ◌∙◌}
 use Rattle.std.specs.Prelude.{option_map, Some}
 use Rattle.std.specs.Option.{option_map_or}
 use Rattle.std.proofs.lemmas.List.{take_all}
+use Rattle.notice_ledger.specs.Lawful.{lawful}
+use Rattle.notice_ledger.proofs.Stamps.{lawful-stamped}
 use Rattle.book_tables.specs.Tables.{found_due}
 use Rattle.book_tables.specs.Soonest.{sooner_of}
 use Rattle.book_tables.proofs.Steps.{take_next}
@@ -27,4 +29,4 @@ pub returns : goal.returns
 returns c = λ j h.
     c.loop-notice.invariant
     ∙ (ap soonest (take_all c.loop-notice.notice-index c.deref-notice-items.result.now c.loop-notice-test.false ∙ c.deref-notice-items.ensures.value)
-    ∙ soonest-first_due c.args.self.now j h)
+    ∙ soonest-first_due c.args.self.now (lawful j) h (lawful-stamped j))

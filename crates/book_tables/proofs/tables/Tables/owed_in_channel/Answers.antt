@@ -14,12 +14,12 @@ abbrev has : UserId → Option UserSet → Bool
 has u o = option_map_or (λ (s : UserSet). is_one_of s.users.items u) o false
 
 pub returns-in_ok-owed-in-Some : goal.returns-in_ok-owed-in-Some
-returns-in_ok-owed-in-Some c = λ past topic h g is.
-    c.in_ok-owed-in-Some.ensures past h g (λ u.
+returns-in_ok-owed-in-Some c = λ past at topic h g is.
+    c.in_ok-owed-in-Some.ensures past at h g (λ u.
     ap (has u) (c.in-Some.ensures ∙ ap (numbered c.args.channel.0) c.deref.ensures.value) ∙ (h.subscribers c.args.channel u ∙ sym (ap (λ (to : Destination). goes_to past to u) is)))
 
 pub returns-in-None : goal.returns-in-None
-returns-in-None c = λ past topic h g is.
+returns-in-None c = λ past at topic h g is.
     c.new.ensures.items
-    ∙ owed-addressed c.args.self.now past h c.args.at c.args.message.now [] refl (λ u.
+    ∙ owed-addressed c.args.self.now past h at c.args.message.now [] refl (λ u.
     ap (has u) (c.in-None.ensures ∙ ap (numbered c.args.channel.0) c.deref.ensures.value) ∙ (h.subscribers c.args.channel u ∙ sym (ap (λ (to : Destination). goes_to past to u) is)))

@@ -10,16 +10,16 @@ use Rattle.book_tables.proofs.Addressed.{item_there, owed-addressed}
 use Rattle.book_tables.proofs.tables.Tables.owed_to.Goals as goal
 
 pub loop-user-preserved : goal.loop-user-preserved
-loop-user-preserved c = λ past h g goes.
+loop-user-preserved c = λ past at h g goes.
     let us = c.deref-user-items.result.now in let i = c.loop-user.user-index in let nobody : UserId = record { 0 = 0 } in
-    let u = get_or us i nobody in let f = owed_there past c.args.at c.args.message.now in
+    let u = get_or us i nobody in let f = owed_there past at c.args.message.now in
     let there : is_one_of c.args.addressees.now.users.items u ≡ true = ap (λ (xs : List UserId). is_one_of xs u) (sym c.deref-user-items.ensures.value) ∙ item_there us i nobody c.loop-user-test.true in
-    c.in_ok-add_owed.ensures past h g (sym (goes u) ∙ there)
-    ∙ (ap (λ (ws : List Waiting). ws ++ f u) (c.loop-user.invariant past h g goes) ∙ (sym (flat_map-push f (take i us) u) ∙ ap (flat_map f) (sym (take_more us i nobody c.loop-user-test.true))))
+    c.in_ok-add_owed.ensures past at h g (sym (goes u) ∙ there)
+    ∙ (ap (λ (ws : List Waiting). ws ++ f u) (c.loop-user.invariant past at h g goes) ∙ (sym (flat_map-push f (take i us) u) ∙ ap (flat_map f) (sym (take_more us i nobody c.loop-user-test.true))))
 
 pub returns : goal.returns
-returns c = λ past h g goes.
+returns c = λ past at h g goes.
     let us = c.args.addressees.now.users.items in
-    c.loop-user.invariant past h g goes
-    ∙ (ap (flat_map (owed_there past c.args.at c.args.message.now)) (take_all c.loop-user.user-index c.deref-user-items.result.now c.loop-user-test.false ∙ c.deref-user-items.ensures.value)
-    ∙ owed-addressed c.args.self.now past h c.args.at c.args.message.now us c.args.addressees.now.ascending goes)
+    c.loop-user.invariant past at h g goes
+    ∙ (ap (flat_map (owed_there past at c.args.message.now)) (take_all c.loop-user.user-index c.deref-user-items.result.now c.loop-user-test.false ∙ c.deref-user-items.ensures.value)
+    ∙ owed-addressed c.args.self.now past h at c.args.message.now us c.args.addressees.now.ascending goes)

@@ -1,4 +1,4 @@
-use Rattle.std.proofs.Common.{◌≡◌, List, take}
+use Rattle.std.proofs.Common.{◌≡◌, ℕ, List, take}
 use Rattle.std.specs.List.{flat_map}
 use Rattle.chat_model.specs.declared.event.Stamped.{Stamped}
 use Rattle.chat_model.specs.declared.ids.UserId.{UserId}
@@ -10,5 +10,5 @@ use Rattle.book_tables.proofs.tables.Tables.owed_to.Given as goal
 
 abbrev pub invariant-loop-user : goal.invariant-loop-user
 invariant-loop-user l =
-    (past : List Stamped) → Holds l.self past → IsGathered past l.message l.gathered → ((u : UserId) → is_one_of l.addressees.users.items u ≡ goes_to past l.message.to u)
-    → l.owed.items ≡ flat_map (owed_there past l.at l.message) (take l.user-index l.user-items)
+    (past : List Stamped) (at : ℕ) → Holds l.self past → IsGathered past l.message l.gathered → ((u : UserId) → is_one_of l.addressees.users.items u ≡ goes_to past l.message.to u)
+    → l.owed.items ≡ flat_map (owed_there past at l.message) (take l.user-index l.user-items)

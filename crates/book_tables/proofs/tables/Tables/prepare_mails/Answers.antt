@@ -1,12 +1,13 @@
-use Rattle.std.proofs.Common.{◌≡◌, ◌+◌, ◌++◌, List, length, map, filter, refl, ap, ◌∙◌, arith}
+use Rattle.std.proofs.Common.{◌≡◌, ◌+◌, ◌++◌, List, length, map, refl, ap, ◌∙◌, arith}
 use Rattle.chat_model.specs.declared.row.RowChange.{RowChange}
-use Rattle.chat_model.specs.declared.row.RowChange.TheVariants.{Put, Remove}
+use Rattle.chat_model.specs.declared.row.RowChange.TheVariants.{Put}
 use Rattle.chat_model.specs.declared.entry.Entry.{Entry}
 use Rattle.notice_ledger.specs.Past.Rows.{outbox_rows_from}
 use Rattle.book_tables.specs.declared.tables.Waiting.{Waiting}
-use Rattle.book_tables.specs.Tables.{is_mail_to}
-use Rattle.book_tables.specs.Prepared.{key_of_notice}
+use Rattle.book_tables.specs.Notices.{is_ready_mail_to}
+use Rattle.book_tables.specs.Prepared.{removes_where}
 use Rattle.book_tables.proofs.Following.{changes-mails}
+use Rattle.book_tables.proofs.Steps.{as_made}
 use Rattle.book_tables.proofs.tables.Tables.prepare_mails.Goals as goal
 
 pub put_entries-requires : goal.put_entries-requires
@@ -19,12 +20,12 @@ returns c = λ past h.
     let many : c.len.result ≡ length t.outbox.items = omega (arith, c.len.ensures, t.outbox.ok.0) in
     let made = c.in_ok-entries.ensures past h in record {
       at = refl;
-      changes = c.in_ok-put_entries.ensures
+      changes = as_made _ (c.in_ok-put_entries.ensures
           ∙ (ap (λ (xs : List Entry). c.remove_mails.new.changes.items ++ map Put (outbox_rows_from (c.len.result + 1) xs)) c.deref-2.ensures.value
-          ∙ (ap (λ (cs : List RowChange). cs ++ map Put (outbox_rows_from (c.len.result + 1) es))
+          ∙ ap (λ (cs : List RowChange). cs ++ map Put (outbox_rows_from (c.len.result + 1) es))
           (c.in_ok-remove_mails.ensures
-          ∙ (ap (λ (cs : List RowChange). cs ++ map (λ w. Remove (key_of_notice w)) (filter (is_mail_to u) c.deref.result.now)) c.new-changes.ensures.items
-          ∙ ap (λ (ws : List Waiting). map (λ w. Remove (key_of_notice w)) (filter (is_mail_to u) ws)) c.deref.ensures.value))
-          ∙ changes-mails t past h c.args.at u c.len.result es many made));
+          ∙ (ap (λ (cs : List RowChange). cs ++ removes_where (is_ready_mail_to u) c.deref.result.now) c.new-changes.ensures.items
+          ∙ ap (λ (ws : List Waiting). removes_where (is_ready_mail_to u) ws) c.deref.ensures.value))))
+          (changes-mails t past h c.args.at u c.len.result es many made);
       effect = (refl, made, c.switched_off.ensures past h);
     }

@@ -9,17 +9,19 @@ use Rattle.book_tables.specs.Tables.{send_of}
 use Rattle.book_tables.specs.Prepared.{notice_row}
 use Rattle.book_tables.specs.declared.prepared.Effect.TheVariants as effect
 use Rattle.book_tables.proofs.Following.{changes-send, effect-send}
+use Rattle.book_tables.proofs.Steps.{as_made}
 use Rattle.book_tables.proofs.tables.Tables.prepare_send.Goals as goal
 
 pub returns : goal.returns
 returns c = λ past h.
     let t = c.args.self.now in let k = c.args.message in let ws = c.in_ok-waiting.waiting.items in
     let many : c.len.result ≡ length t.messages.items = omega (arith, c.len.ensures, t.messages.ok.0) in
-    let owed = c.in_ok-waiting.ensures past h in record {
+    let owed = c.in_ok-waiting.ensures past c.args.at h in record {
       at = refl;
-      changes = c.in_ok-put_notices.ensures
+      changes = as_made _ (c.in_ok-put_notices.ensures
           ∙ (ap (λ (xs : List Waiting). c.push.new.self.items ++ map (λ w. Put (notice_row w)) xs) c.deref-2.ensures.value
           ∙ (ap (λ (cs : List RowChange). cs ++ map (λ w. Put (notice_row w)) ws) (c.in_ok-push.ensures.items ∙ ap (λ (cs : List RowChange). cs ++ Put (row.Message (record { 0 = c.len.result + 1 }) k.sender c.in_ok-copy.field-0 false) ∷ []) c.new-changes.ensures.items)
-          ∙ (ap (λ (x : List ℕ). Put (row.Message (record { 0 = c.len.result + 1 }) k.sender x false) ∷ map (λ w. Put (notice_row w)) ws) c.in_ok-copy.ensures ∙ changes-send t past h c.args.at k c.len.result ws many owed)));
+          ∙ ap (λ (x : List ℕ). Put (row.Message (record { 0 = c.len.result + 1 }) k.sender x false) ∷ map (λ w. Put (notice_row w)) ws) c.in_ok-copy.ensures)))
+          (changes-send t past h c.args.at k c.len.result ws many owed);
       effect = effect-send past c.args.at k.sender k.to k.text (effect.Message k c.in_ok-waiting.waiting c.in_ok-deal.deal) (refl, owed, c.in_ok-deal.ensures (occurrence past (send_of c.args.at k)) h (c.deref.ensures.value ∙ owed));
     }

@@ -5,7 +5,7 @@ use Rattle.notice_ledger.specs.Journal.{stamp, deal_count}
 use Rattle.notice_ledger.specs.Deals.{run_number}
 use Rattle.missed_hook.specs.Passed.{Passed}
 use Rattle.presence_queues.specs.Steps.{new_hub}
-use Rattle.notifyd.specs.World.{fresh_hub}
+use Rattle.notifyd.specs.World.{fresh_hub, untaken}
 use Rattle.notifyd.proofs.PlayLemmas.{world-started, has_begun}
 use Rattle.notifyd.proofs.play.Play.start.Goals as goal
 
@@ -22,4 +22,4 @@ returns-clause-begun g c =
     ∙ ap (λ (n : ℕ). new_hub n c.deal_count.result c.new-pipe.result.taken) c.run_number.ensures
     ∙ ap (λ (n : ℕ). new_hub run (record { 0 = n }) c.new-pipe.result.taken) c.deal_count.ensures
     ∙ ap (λ (p : Passed). new_hub run next p.taken) c.new-pipe.ensures in
-    has_begun _ loaded _ c.in-Ok-start.ensures.ok.stands (world-started loaded office.journal c.new-hub.result c.last_stamp-clock.result journal made c.last_stamp-clock.ensures) c.nothing.ensures refl refl c.in-Ok.ensures
+    has_begun _ loaded _ c.in-Ok-start.ensures.ok.stands (world-started loaded office.journal (untaken c.new-hub.result) c.last_stamp-clock.result journal (ap untaken made) c.last_stamp-clock.ensures) c.nothing.ensures refl refl c.in-Ok.ensures

@@ -9,6 +9,7 @@ use Rattle.notice_ledger.proofs.LawfulLemmas.{lawful-next}
 use Rattle.book_tables.specs.Tables.{found_due, switched_at}
 use Rattle.book_tables.proofs.Following.{mail_entries-long, outbox-mails}
 use Rattle.office.proofs.Offices.{turn_lawful}
+use Rattle.office.proofs.Reaching.{reached-kept}
 use Rattle.office.proofs.office.Office.mail_turn.Goals as goal
 use Rattle.office.proofs.office.Office.mail_turn.Goals.{After-entries}
 use Rattle.office.proofs.office.Office.mail_turn.Given.{Over}
@@ -45,3 +46,8 @@ returns-clause-answered g c =
       made ∙ ap (λ n. length (past.mail_entries (lawful j) n u)) c.stamp-at.ensures,
       all ∙ c.batch_rows-rows.ensures,
     )
+
+pub returns-clause-reached : goal.returns-clause-reached
+returns-clause-reached g c =
+    let s : Stamped = record { at = c.stamp-at.result; event = MailTurn c.in-Some.first.user } in
+    reached-kept c.args.self.now.journal c.record.new.self.journal s c.args.self.now.in_hand c.record.new.self.in_hand refl refl c.in_ok-record.ensures.ok c.record.ensures.in_hand

@@ -1,0 +1,256 @@
+-- The changes of pending rows that each event brings make of the rows of the notices that wait those after the event.
+use Rattle.std.proofs.Common.{◌≡◌, ℕ, Bool, true, false, ◌&&◌, ◌||◌, ◌==◌, cond, List, [], ◌∷◌, ◌++◌, Option, Some, None, map, filter, refl, sym, ap, ◌∙◌, subst}
+use Rattle.std.specs.Prelude.{IfSome, option_map, if◌then◌else◌}
+use Rattle.std.specs.Ordering.{is_eq}
+use Rattle.std.specs.List.{AllByRecursion, filter_map, flat_map, cons_option}
+use Rattle.std.proofs.lemmas.List.{map-append, append-nil}
+use Rattle.std.proofs.lemmas.Bool.{eq-eqb}
+use Rattle.chat_model.specs.declared.event.Stamped.{Stamped}
+use Rattle.chat_model.specs.declared.event.Event.TheVariants.{Restart, Absorbed, MailTurn}
+use Rattle.chat_model.specs.declared.deal.Outcome.TheVariants.{Dealt, Cleared, Missed}
+use Rattle.chat_model.specs.declared.deal.QueueId.{QueueId}
+use Rattle.chat_model.specs.declared.deal.UserVerdict.{UserVerdict}
+use Rattle.chat_model.specs.declared.ids.DealNo.{DealNo}
+use Rattle.chat_model.specs.declared.ids.UserId.{UserId}
+use Rattle.chat_model.specs.declared.trigger.Way.{Way}
+use Rattle.chat_model.specs.declared.trigger.Way.TheVariants.{Mail, Push}
+use Rattle.chat_model.specs.declared.row.Row.{Row}
+use Rattle.chat_model.specs.declared.row.RowKey.{RowKey}
+use Rattle.chat_model.specs.declared.row.RowKey.TheVariants as key
+use Rattle.chat_model.specs.declared.row.RowChange.TheVariants.{Put, Remove}
+use Rattle.chat_model.specs.Outcomes.{gives_idle, gives_live, has_deal}
+use Rattle.chat_model.specs.Rows.{key_cmp, key_of}
+use Rattle.chat_model.proofs.Keys.{same_key, key_cmp_itself}
+use Rattle.chat_model.proofs.Rows.{row_after, row_after_all, row_after_all-append}
+use Rattle.notice_ledger.specs.Past.Journal.{occurrence, absorbs}
+use Rattle.notice_ledger.specs.Past.Values.{is_one_of}
+use Rattle.chat_model.specs.Outcomes.{is_dealt}
+use Rattle.notice_ledger.specs.Past.Owed.{Notice, same_way, owed_by, readies, clears, is_mail_turn_of, waiting}
+use Rattle.notice_ledger.proofs.Apart.{Pairwise, Differ, waiting-apart}
+use Rattle.notice_ledger.proofs.Lists.{AllByRecursion-append}
+use Rattle.notice_ledger.proofs.RowKeys.{table, equal_from}
+use Rattle.book_tables.specs.declared.tables.Standing.{Standing}
+use Rattle.book_tables.specs.declared.tables.Standing.TheVariants.{Flight, Held, Ready}
+use Rattle.book_tables.specs.declared.tables.Waiting.{Waiting}
+use Rattle.book_tables.specs.Notices.{rank, is_undecided, is_ready_mail_to, is_undecided_at, is_undecided_of, of_deal, is_named, named_by, ready_if, readied, dealt_by, dealt_to}
+use Rattle.book_tables.specs.Prepared.{notice_row, key_of_notice, puts_where, removes_where}
+use Rattle.book_tables.specs.Tables.{notice_kept, in_flight}
+use Rattle.book_tables.proofs.Moves.{swapped, step, kept-append, steps_left, step_start, step_mails, step_cleared, step_missed, step_dealt}
+use Rattle.book_tables.proofs.RowMoves.{change_key, KeysDiffer, passes_any, rows-moved}
+use Rattle.book_tables.proofs.RowsAfter.{AreOf, all_kept, MakesPending}
+
+-- ---- the keys of the notices that wait
+
+abbrev is_key_of : Waiting → RowKey → Bool
+is_key_of w (key.Pending u m way) = w.user.0 == u.0 && w.message.0 == m.0 && same_way w.way way
+is_key_of w _ = false
+
+itself : (w : Waiting) → is_key_of w (key_of_notice w) ≡ true
+itself w =
+    ap (λ b. b && w.message.0 == w.message.0 && same_way w.way w.way) (eq-eqb w.user.0 w.user.0 refl)
+    ∙ (ap (λ b. b && same_way w.way w.way) (eq-eqb w.message.0 w.message.0 refl) ∙ by w.way)
+  where
+    by : (way : Way) → same_way way way ≡ true
+    by Mail = refl
+    by Push = refl
+
+differ : (j : List Stamped) (a b : Notice) → Differ a b → KeysDiffer (notice_kept j a) (notice_kept j b)
+differ j a b d =
+    let v = notice_kept j a in let w = notice_kept j b in
+    elim (is_eq (key_cmp (key_of_notice w) (key_of_notice v))) as (λ t. is_eq (key_cmp (key_of_notice w) (key_of_notice v)) ≡ t → t ≡ false) [
+      | true ↦ λ e. sym (itself w) ∙ (ap (is_key_of w) (same_key (key_of_notice w) (key_of_notice v) (equal_from (key_cmp (key_of_notice w) (key_of_notice v)) e)) ∙ d)
+      | false ↦ λ e. refl
+    ] refl
+
+pub keys-differ : (j : List Stamped) → Pairwise KeysDiffer (all_kept j)
+keys-differ j = each (waiting j) (waiting-apart j)
+  where
+    later : (a : Notice) (ns : List Notice) → AllByRecursion (Differ a) ns → AllByRecursion (KeysDiffer (notice_kept j a)) (map (notice_kept j) ns)
+    later a [] all = tt
+    later a (n ∷ ns) all = (differ j a n all.0, later a ns all.1)
+
+    each : (ns : List Notice) → Pairwise Differ ns → Pairwise KeysDiffer (map (notice_kept j) ns)
+    each [] p = tt
+    each (n ∷ ns) p = (later n ns p.0, each ns p.1)
+
+-- ---- the rows after an event
+
+row_here : (k : RowKey) (r : Row) (x : Option Row) → key_of r ≡ k → row_after k (Put r) x ≡ Some r
+row_here k r x same = ap (λ b. cond b (Some r) x) (ap (λ q. is_eq (key_cmp q k)) same ∙ ap is_eq (key_cmp_itself k))
+
+gone_here : (k : RowKey) (x : Option Row) → row_after k (Remove k) x ≡ None
+gone_here k x = ap (λ b. cond b None x) (ap is_eq (key_cmp_itself k))
+
+rows_of_steps : (f : Waiting → Option Waiting) (ws : List Waiting) → map notice_row (filter_map f ws) ≡ filter_map (λ w. option_map notice_row (f w)) ws
+rows_of_steps f [] = refl
+rows_of_steps f (w ∷ ws) = by (f w) ∙ ap (cons_option (option_map notice_row (f w))) (rows_of_steps f ws)
+  where
+    by : (o : Option Waiting) → map notice_row (cons_option o (filter_map f ws)) ≡ cons_option (option_map notice_row o) (map notice_row (filter_map f ws))
+    by None = refl
+    by (Some v) = refl
+
+-- the rows after an event that owes nothing
+all_moved : (j : List Stamped) (s : Stamped) → owed_by (occurrence j s) ≡ [] → map notice_row (all_kept (j ++ s ∷ [])) ≡ filter_map (λ w. option_map notice_row (step s w)) (all_kept j)
+all_moved j s none =
+    ap (map notice_row) (kept-append j s ∙ (ap (λ ns. filter_map (step s) (all_kept j) ++ map in_flight ns) none ∙ append-nil (filter_map (step s) (all_kept j))))
+    ∙ rows_of_steps (step s) (all_kept j)
+
+moves_all : {X Y : Type 0} (f g : X → Option Y) → ((x : X) → f x ≡ g x) → (xs : List X) → filter_map f xs ≡ filter_map g xs
+moves_all f g same [] = refl
+moves_all f g same (x ∷ xs) = (λ i. cons_option (same x i) (moves_all f g same xs i))
+
+-- ---- changes by tests
+
+puts_are : (become : Waiting → Waiting) (ws : List Waiting) → AreOf 2 (map (λ w. Put (notice_row (become w))) ws)
+puts_are become [] = tt
+puts_are become (w ∷ ws) = (refl, puts_are become ws)
+
+removes_are : (ws : List Waiting) → AreOf 2 (map (λ w. Remove (key_of_notice w)) ws)
+removes_are [] = tt
+removes_are (w ∷ ws) = (refl, removes_are ws)
+
+-- notices that pass one of some tests become others, and the rest stay
+puts_make : (j : List Stamped) (s : Stamped) → owed_by (occurrence j s) ≡ [] → (become : Waiting → Waiting) → ((w : Waiting) → key_of_notice (become w) ≡ key_of_notice w) → (tests : List (Waiting → Bool))
+    → ((w : Waiting) → option_map notice_row (step s w) ≡ cond (passes_any tests w) (Some (notice_row (become w))) (Some (notice_row w))) → MakesPending j s (flat_map (λ t. puts_where t become (all_kept j)) tests)
+puts_make j s none become keeps tests is = record {
+  are = of tests;
+  makes = λ k.
+      rows-moved k (λ w. cond (passes_any tests w) (Some (notice_row (become w))) (Some (notice_row w))) (λ w. Some (notice_row (become w))) (λ w. Put (notice_row (become w))) (λ w. keeps w)
+      (λ w x. row_here (key_of_notice w) (notice_row (become w)) x (keeps w)) (λ w. kept w (passes_any tests w)) tests (λ w. refl) (all_kept j) (keys-differ j)
+      ∙ sym (ap (λ rs. row_after_all k (map Put rs) None) (all_moved j s none ∙ moves_all (λ w. option_map notice_row (step s w)) (λ w. cond (passes_any tests w) (Some (notice_row (become w))) (Some (notice_row w))) is (all_kept j)));
+}
+  where
+    of : (ts : List (Waiting → Bool)) → AreOf 2 (flat_map (λ t. puts_where t become (all_kept j)) ts)
+    of [] = tt
+    of (t ∷ ts) = AllByRecursion-append (λ c. table (change_key c) ≡ 2) (puts_where t become (all_kept j)) (flat_map (λ t. puts_where t become (all_kept j)) ts) (puts_are become (filter t (all_kept j))) (of ts)
+
+    kept : (w : Waiting) (b : Bool) → IfSome (cond b (Some (notice_row (become w))) (Some (notice_row w))) (λ r. key_of r ≡ key_of_notice w)
+    kept w true = keeps w
+    kept w false = refl
+
+-- notices that pass one of some tests go, and the rest stay
+removes_make : (j : List Stamped) (s : Stamped) → owed_by (occurrence j s) ≡ [] → (tests : List (Waiting → Bool))
+    → ((w : Waiting) → option_map notice_row (step s w) ≡ cond (passes_any tests w) None (Some (notice_row w))) → MakesPending j s (flat_map (λ t. removes_where t (all_kept j)) tests)
+removes_make j s none tests is = record {
+  are = of tests;
+  makes = λ k.
+      rows-moved k (λ w. cond (passes_any tests w) None (Some (notice_row w))) (λ w. None) (λ w. Remove (key_of_notice w)) (λ w. refl)
+      (λ w x. gone_here (key_of_notice w) x) (λ w. kept w (passes_any tests w)) tests (λ w. refl) (all_kept j) (keys-differ j)
+      ∙ sym (ap (λ rs. row_after_all k (map Put rs) None) (all_moved j s none ∙ moves_all (λ w. option_map notice_row (step s w)) (λ w. cond (passes_any tests w) None (Some (notice_row w))) is (all_kept j)));
+}
+  where
+    of : (ts : List (Waiting → Bool)) → AreOf 2 (flat_map (λ t. removes_where t (all_kept j)) ts)
+    of [] = tt
+    of (t ∷ ts) = AllByRecursion-append (λ c. table (change_key c) ≡ 2) (removes_where t (all_kept j)) (flat_map (λ t. removes_where t (all_kept j)) ts) (removes_are (filter t (all_kept j))) (of ts)
+
+    kept : (w : Waiting) (b : Bool) → IfSome (cond b None (Some (notice_row w))) (λ r. key_of r ≡ key_of_notice w)
+    kept w true = tt
+    kept w false = refl
+
+-- one test
+one_test : {X : Type 0} (f : (Waiting → Bool) → List X) (t : Waiting → Bool) → flat_map f (t ∷ []) ≡ f t
+one_test f t = append-nil (f t)
+
+or-none : (b : Bool) → (b || false) ≡ b
+or-none true = refl
+or-none false = refl
+
+-- ---- each event
+
+-- an event that is nothing to any notice
+pub makes_left : (j : List Stamped) (s : Stamped) → ((u : UserId) → is_mail_turn_of u s.event ≡ false) → ((u : UserId) (k : DealNo) (online : Bool) → readies u k online s.event ≡ false) → ((u : UserId) (k : DealNo) → clears u k s.event ≡ false) → ((k : DealNo) → absorbs (is_dealt k) s.event ≡ false)
+    → MakesPending j s (map (λ w. Put (notice_row w)) (map in_flight (owed_by (occurrence j s))))
+makes_left j s never not_ready not_cleared not_dealt = record {
+  are = puts_are (λ w. w) (map in_flight (owed_by (occurrence j s)));
+  makes = λ k.
+      let old = all_kept j in let new = map in_flight (owed_by (occurrence j s)) in
+      sym (ap (λ ws. row_after_all k (map Put (map notice_row ws)) None) (kept-append j s ∙ ap (λ ws. ws ++ new) (steps_left s never not_ready not_cleared not_dealt old))
+      ∙ (ap (λ rs. row_after_all k rs None) (ap (map Put) (map-append notice_row old new) ∙ map-append Put (map notice_row old) (map notice_row new))
+      ∙ (row_after_all-append k (map Put (map notice_row old)) (map Put (map notice_row new)) None
+      ∙ ap (λ cs. row_after_all k cs (row_after_all k (map Put (map notice_row old)) None)) (again new))));
+}
+  where
+    again : (ws : List Waiting) → map Put (map notice_row ws) ≡ map (λ w. Put (notice_row w)) ws
+    again [] = refl
+    again (w ∷ ws) = ap (λ cs. Put (notice_row w) ∷ cs) (again ws)
+
+pub makes_start : (j : List Stamped) (at : ℕ) → MakesPending j (record { at = at; event = Restart }) (puts_where is_undecided (readied at) (all_kept j))
+makes_start j at =
+    let s : Stamped = record { at = at; event = Restart } in
+    subst (MakesPending j s) (one_test (λ t. puts_where t (readied at) (all_kept j)) is_undecided)
+    (puts_make j s refl (readied at) (λ w. refl) (is_undecided ∷ []) (λ w. ap (option_map notice_row) (step_start at w) ∙ (by w w.standing ∙ ap (λ b. cond b (Some (notice_row (readied at w))) (Some (notice_row w))) (sym (or-none (is_undecided w))))))
+  where
+    by : (w : Waiting) (g : Standing) → Some (notice_row (record w { standing = ready_if true at g })) ≡ cond (is_undecided (record w { standing = g })) (Some (notice_row (record w { standing = ready_if true at g }))) (Some (notice_row (record w { standing = g })))
+    by w Flight = refl
+    by w Held = refl
+    by w (Ready since) = refl
+
+pub makes_mails : (j : List Stamped) (at : ℕ) (u : UserId) → MakesPending j (record { at = at; event = MailTurn u }) (removes_where (is_ready_mail_to u) (all_kept j))
+makes_mails j at u =
+    let s : Stamped = record { at = at; event = MailTurn u } in
+    subst (MakesPending j s) (one_test (λ t. removes_where t (all_kept j)) (is_ready_mail_to u))
+    (removes_make j s refl (is_ready_mail_to u ∷ []) (λ w. ap (option_map notice_row) (step_mails at u w) ∙ (by w (is_ready_mail_to u w) ∙ ap (λ b. cond b None (Some (notice_row w))) (sym (or-none (is_ready_mail_to u w))))))
+  where
+    by : (w : Waiting) (b : Bool) → option_map notice_row (cond b None (Some w)) ≡ cond b None (Some (notice_row w))
+    by w true = refl
+    by w false = refl
+
+pub makes_dealt : (j : List Stamped) (at : ℕ) (k : DealNo) (verdicts : List UserVerdict) (idle live : List UserId) → ((u : UserId) → is_one_of idle u ≡ gives_idle verdicts u) → ((u : UserId) → is_one_of live u ≡ gives_live verdicts u)
+    → MakesPending j (record { at = at; event = Absorbed (Dealt k verdicts) }) (puts_where (is_undecided_of k) (dealt_to at idle live) (all_kept j))
+makes_dealt j at k verdicts idle live are_idle are_live =
+    let s : Stamped = record { at = at; event = Absorbed (Dealt k verdicts) } in
+    subst (MakesPending j s) (one_test (λ t. puts_where t (dealt_to at idle live) (all_kept j)) (is_undecided_of k))
+    (puts_make j s refl (dealt_to at idle live) (λ w. refl) (is_undecided_of k ∷ []) (λ w.
+    ap (option_map notice_row) (step_dealt at k verdicts idle live are_idle are_live w)
+    ∙ (by w (of_deal k w) (is_one_of idle w.user || (w.online && is_one_of live w.user)) w.standing ∙ ap (λ b. cond b (Some (notice_row (dealt_to at idle live w))) (Some (notice_row w))) (sym (or-none (is_undecided_of k w))))))
+  where
+    by : (w : Waiting) (q r : Bool) (g : Standing) → option_map notice_row (Some (if q then record w { standing = dealt_by r at g } else record w { standing = g })) ≡ cond (q && is_undecided (record w { standing = g })) (Some (notice_row (record w { standing = dealt_by r at g }))) (Some (notice_row (record w { standing = g })))
+    by w true true Flight = refl
+    by w true false Flight = refl
+    by w true true Held = refl
+    by w true false Held = refl
+    by w true true (Ready since) = refl
+    by w true false (Ready since) = refl
+    by w false r g = refl
+
+-- a notice is named where it passes one of the tests
+named_so : (u : UserId) (deals : List DealNo) (w : Waiting) → passes_any (named_by u deals) w ≡ (is_named u deals w && is_undecided w)
+named_so u [] w = sym (nobody (w.user.0 == u.0) (is_undecided w))
+  where
+    nobody : (a b : Bool) → ((a && false) && b) ≡ false
+    nobody true b = refl
+    nobody false b = refl
+named_so u (k ∷ deals) w =
+    ap (λ b. is_undecided_at k u Mail w || (is_undecided_at k u Push w || b)) (named_so u deals w)
+    ∙ (by (w.deal.0 == k.0) (w.user.0 == u.0) w.way (is_undecided w) (has_deal deals w.deal)
+    ∙ ap (λ b. (w.user.0 == u.0 && (b || has_deal deals w.deal)) && is_undecided w) (swapped w.deal.0 k.0))
+  where
+    by : (q a : Bool) (way : Way) (d more : Bool) → (((q && (a && rank way == 0)) && d) || (((q && (a && rank way == 1)) && d) || ((a && more) && d))) ≡ ((a && (q || more)) && d)
+    by true true Mail true more = refl
+    by true true Mail false true = refl
+    by true true Mail false false = refl
+    by true true Push true more = refl
+    by true true Push false true = refl
+    by true true Push false false = refl
+    by true false way d more = refl
+    by false a way d more = refl
+
+pub makes_cleared : (j : List Stamped) (at : ℕ) (u : UserId) (deals : List DealNo) (q : QueueId) → MakesPending j (record { at = at; event = Absorbed (Cleared u deals q) }) (flat_map (λ t. removes_where t (all_kept j)) (named_by u deals))
+makes_cleared j at u deals q =
+    removes_make j (record { at = at; event = Absorbed (Cleared u deals q) }) refl (named_by u deals) (λ w.
+    ap (option_map notice_row) (step_cleared at u deals q w) ∙ (by w (is_named u deals w && is_undecided w) ∙ ap (λ b. cond b None (Some (notice_row w))) (sym (named_so u deals w))))
+  where
+    by : (w : Waiting) (b : Bool) → option_map notice_row (cond b None (Some w)) ≡ cond b None (Some (notice_row w))
+    by w true = refl
+    by w false = refl
+
+pub makes_missed : (j : List Stamped) (at : ℕ) (u : UserId) (deals : List DealNo) → MakesPending j (record { at = at; event = Absorbed (Missed u deals) }) (flat_map (λ t. puts_where t (readied at) (all_kept j)) (named_by u deals))
+makes_missed j at u deals =
+    puts_make j (record { at = at; event = Absorbed (Missed u deals) }) refl (readied at) (λ w. refl) (named_by u deals) (λ w.
+    ap (option_map notice_row) (step_missed at u deals w) ∙ (by w (is_named u deals w) w.standing ∙ ap (λ b. cond b (Some (notice_row (readied at w))) (Some (notice_row w))) (sym (named_so u deals w))))
+  where
+    by : (w : Waiting) (q : Bool) (g : Standing) → Some (notice_row (record w { standing = ready_if q at g })) ≡ cond (q && is_undecided (record w { standing = g })) (Some (notice_row (record w { standing = ready_if true at g }))) (Some (notice_row (record w { standing = g })))
+    by w true Flight = refl
+    by w true Held = refl
+    by w true (Ready since) = refl
+    by w false g = refl

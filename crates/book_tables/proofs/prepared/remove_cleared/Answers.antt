@@ -1,0 +1,21 @@
+use Rattle.std.proofs.Common.{◌++◌, ◌∷◌, [], List, map, sym, ap, ◌∙◌}
+use Rattle.std.proofs.lemmas.List.{append-nil}
+use Rattle.chat_model.specs.declared.row.RowKey.{RowKey}
+use Rattle.chat_model.specs.declared.row.RowChange.TheVariants.{Remove}
+use Rattle.book_tables.specs.declared.tables.Waiting.{Waiting}
+use Rattle.book_tables.specs.Notices.{is_undecided_at}
+use Rattle.book_tables.specs.Prepared.{key_of_notice}
+use Rattle.book_tables.proofs.Sought.{filter-only, filter-none}
+use Rattle.book_tables.proofs.prepared.remove_cleared.Goals as goal
+
+pub returns-in_ok-push : goal.returns-in_ok-push
+returns-in_ok-push c = λ order.
+    let test = is_undecided_at c.args.deal c.args.user c.args.way in let ws = c.args.waiting.now in let before = c.args.changes.now.items in
+    c.in_ok-push.ensures.items
+    ∙ (ap (λ (k : RowKey). before ++ Remove k ∷ []) (c.key_of.ensures ∙ ap key_of_notice c.index-waiting-place.is)
+    ∙ ap (λ (vs : List Waiting). before ++ map (λ w. Remove (key_of_notice w)) vs) (sym (filter-only test ws c.in-Some.place c.index-waiting-place.result (c.in-Some.ensures.found order))))
+
+pub returns-in_default : goal.returns-in_default
+returns-in_default c = λ order.
+    let test = is_undecided_at c.args.deal c.args.user c.args.way in let ws = c.args.waiting.now in let before = c.args.changes.now.items in
+    sym (append-nil before) ∙ ap (λ (vs : List Waiting). before ++ map (λ w. Remove (key_of_notice w)) vs) (sym (filter-none test ws (c.in_default.ensures.found order)))

@@ -1,0 +1,19 @@
+use Rattle.std.proofs.Common.{◌++◌, List, refl, ap, ◌∙◌}
+use Rattle.chat_model.specs.declared.row.RowChange.{RowChange}
+use Rattle.book_tables.specs.declared.tables.Waiting.{Waiting}
+use Rattle.book_tables.specs.Notices.{is_undecided, readied}
+use Rattle.book_tables.specs.Prepared.{puts_where}
+use Rattle.book_tables.proofs.Following.{changes-start}
+use Rattle.book_tables.proofs.Steps.{as_made}
+use Rattle.book_tables.proofs.tables.Tables.prepare_start.Goals as goal
+
+pub returns : goal.returns
+returns c = λ past h.
+    let t = c.args.self.now in let at = c.args.at in record {
+      at = refl;
+      changes = as_made _ (c.in_ok-put_ready.ensures
+          ∙ (ap (λ (cs : List RowChange). cs ++ puts_where is_undecided (readied at) c.deref.result.now) c.new-changes.ensures.items
+          ∙ ap (λ (ws : List Waiting). puts_where is_undecided (readied at) ws) c.deref.ensures.value))
+          (changes-start t past h at);
+      effect = refl;
+    }

@@ -1,0 +1,112 @@
+//! What a notice's turn decided, and where an owed notice stands, by looking through the whole list of events.
+ghost use Rattle.std.specs.Prelude.{◌≡◌, ◌&&◌, None, nat_lt, is_some, option_map, if◌then◌else◌};
+ghost use Rattle.notice_ledger.specs.Past.Journal.{first_behind};
+ghost use Rattle.notice_ledger.specs.Past.Owed.{account_by, is_mail_turn_of, is_turn_of, switch_on, turn_switch};
+ghost use Rattle.notice_ledger.specs.Plain.{account_kept, cleared_kept, dealt_kept, decided_kept, ready_kept, turn_kept};
+
+use crate::Account;
+use crate::owed::Owed;
+use crate::readiness::{ready, was_cleared, was_dealt};
+use crate::settings::settings;
+use chat_model::{Cause, Event, Settings, Stamped, UserId, Way};
+
+fn is_mail_turn_of(user: UserId, event: &Event) -> bool
+    ensures { result ≡ is_mail_turn_of user event.now }
+{
+    match event {
+        Event::MailTurn(other) => other.0 == user.0,
+        _ => false,
+    }
+}
+
+/// Whether the event is a turn of the user by the way.
+fn is_turn_of(user: UserId, way: Way, event: &Event) -> bool
+    ensures { result ≡ is_turn_of user way event.now }
+{
+    match way {
+        Way::Mail => is_mail_turn_of(user, event),
+        Way::Push => false,
+    }
+}
+
+/// The switch that a turn of the way looks at.
+fn turn_switch(way: Way, settings: &Settings) -> bool
+    ensures { result ≡ turn_switch way settings.now }
+{
+    match way {
+        Way::Mail => settings.mail_mentions,
+        Way::Push => settings.push_mentions || settings.push_online,
+    }
+}
+
+/// Whether the user's switch for a turn of the way is on.
+pub fn is_switch_on(past: &[Stamped], user: UserId, way: Way) -> bool
+    ensures { result ≡ switch_on past.now user way }
+{
+    turn_switch(way, &settings(past, user))
+}
+
+/// What a turn behind these events decides of a notice.
+fn decided(past: &[Stamped], notice: &Owed) -> Account
+    ensures { result ≡ (if switch_on past.now notice.now.user notice.now.way then Account.Handed else Account.Cancelled Cause.SwitchedOff) }
+{
+    if is_switch_on(past, notice.user, notice.way) {
+        Account::Handed
+    } else {
+        Account::Cancelled(Cause::SwitchedOff)
+    }
+}
+
+/// Whether an event at a place stands behind another place and is a turn of the notice.
+fn is_turn_behind(notice: &Owed, behind: usize, place: usize, event: &Event) -> bool
+    ensures { result ≡ (nat_lt behind place && is_turn_of notice.now.user notice.now.way event.now) }
+{
+    behind < place && is_turn_of(notice.user, notice.way, event)
+}
+
+/// What the first turn of the notice behind a place decided.
+fn decision_behind(journal: &[Stamped], place: usize, notice: &Owed) -> Option<Account>
+    ensures { result ≡ option_map (decided_kept notice.now) (first_behind place (λ o. is_turn_of notice.now.user notice.now.way o.event) journal.now) }
+{
+    for i in 0..journal.len() {
+        if is_turn_behind(notice, place, i, &journal[i].event) {
+            return Some(decided(&journal[..i], notice));
+        }
+    }
+    None
+}
+
+/// What the notice's turn decided, the first one behind its ready event.
+pub fn decision(journal: &[Stamped], notice: &Owed) -> Option<Account>
+    ensures { result ≡ option_map (decided_kept notice.now) (turn_kept journal.now notice.now) }
+{
+    match ready(journal, notice) {
+        Some(spot) => decision_behind(journal, spot.place, notice),
+        None => None,
+    }
+}
+
+/// Where a notice stands of which no turn decided.
+fn undecided(journal: &[Stamped], notice: &Owed) -> Account
+    ensures { result ≡ account_by None None (is_some (ready_kept journal.now notice.now)) (cleared_kept journal.now notice.now) (dealt_kept journal.now notice.now) }
+{
+    if ready(journal, notice).is_some() {
+        Account::Ready
+    } else if was_cleared(journal, notice) {
+        Account::LiveQueue
+    } else if was_dealt(journal, notice) {
+        Account::Held
+    } else {
+        Account::Flight
+    }
+}
+
+/// Where an owed notice stands. No event bars a notice yet.
+pub fn account_of(journal: &[Stamped], notice: &Owed) -> Account
+    ensures { result ≡ account_kept journal.now notice.now }
+{
+    match decision(journal, notice) {
+        Some(account) => account,
+        None => undecided(journal, notice),
+    }
+}
