@@ -13,7 +13,7 @@ use Rattle.chat_model.specs.declared.event.Event.TheVariants.{Restart, Asked, Ab
 use Rattle.chat_model.specs.declared.request.Request.TheVariants.{AddUser, AddGroup, Member, AddChannel, Subscribe, Set, SetChannel, SetPolicy, Mute, Send, Direct}
 use Rattle.chat_model.specs.declared.request.Request.{Request}
 use Rattle.chat_model.specs.declared.request.Refusal.{Refusal}
-use Rattle.chat_model.specs.declared.request.Refusal.TheVariants.{NoUser, NoChannel, NoGroup, Exists, TopicTooLong, TooMany}
+use Rattle.chat_model.specs.declared.request.Refusal.TheVariants.{NoUser, NoChannel, NoGroup, Exists, TopicTooLong, BadPeriod, TooMany}
 use Rattle.chat_model.specs.declared.row.Cause.TheVariants.{SwitchedOff}
 use Rattle.notice_ledger.specs.declared.accounts.Account.TheVariants.{Cancelled, LiveQueue}
 use Rattle.chat_model.specs.declared.deal.Outcome.{Outcome}
@@ -43,7 +43,7 @@ use Rattle.notice_ledger.specs.Past.Due.{batch_rows}
 use Rattle.notice_ledger.specs.Past.Outbox.{outbox, entries_by, mailed, mail_entry, mail_entries, by_message}
 use Rattle.notice_ledger.specs.Past.Audit.{in_64_bits, owed_with, same_account}
 use Rattle.notice_ledger.proofs.Audited.{switched_off, switched_off-append, cleared_live, cleared_live-append, is_turned}
-use Rattle.notice_ledger.specs.Past.Refusals.{Rule, rule, first_broken, name_rules, rules_of, refusal, is_taken}
+use Rattle.notice_ledger.specs.Past.Refusals.{Rule, rule, first_broken, is_bad_period, name_rules, rules_of, refusal, is_taken}
 use Rattle.notice_ledger.specs.Limits.{longest_topic, most_items}
 use Rattle.notice_ledger.specs.Texts.{is_longer_than}
 use Rattle.notice_ledger.specs.InOrder.{is_ascending, is_in_order}
@@ -694,7 +694,7 @@ module _ (j : List Stamped) where
       subst (Agrees j (record { at = at; event = Asked (Subscribe user channel on) })) (sym fits) (agrees_subscription at user channel on users.0 (first_kept (is_channel j channel) NoChannel [] users.1).0)
   agrees at (Asked (Set user change)) e may fits =
       let s : Stamped = record { at = at; event = Asked (Set user change) } in
-      subst (Agrees j s) (sym fits) (agrees_preference s user (preference.Setting change) (first_kept (is_user j user) NoUser [] (asked_not_refused at (Set user change) may)).0 (after-setting j at user change)
+      subst (Agrees j s) (sym fits) (agrees_preference s user (preference.Setting change) (first_kept (is_user j user) NoUser (rule (is_bad_period change) BadPeriod ∷ []) (asked_not_refused at (Set user change) may)).0 (after-setting j at user change)
       refl refl refl refl (λ g u. refl) (λ u c. refl) (calm_asked at (Set user change)) refl refl refl)
   agrees at (Asked (SetChannel user channel change)) e may fits =
       let s : Stamped = record { at = at; event = Asked (SetChannel user channel change) } in

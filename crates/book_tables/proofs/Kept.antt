@@ -1,5 +1,5 @@
 -- What is kept of a notice that waits, by the definitions of the journal: its stage, its stamp, and the batch rows.
-use Rattle.std.proofs.Common.{◌≡◌, ◌≤◌, ◌+◌, not, Bool, true, false, ◌&&◌, ◌==◌, cond, List, [], ◌∷◌, Option, Some, None, length, map, filter, refl, sym, ap, ◌∙◌, arith}
+use Rattle.std.proofs.Common.{◌≡◌, ℕ, ◌≤◌, ◌+◌, not, Bool, true, false, ◌&&◌, ◌==◌, cond, List, [], ◌∷◌, Option, Some, None, length, map, filter, refl, sym, ap, ◌∙◌, arith}
 use Rattle.std.specs.Prelude.{option_map, is_some, count_by, if◌then◌else◌}
 use Rattle.std.specs.List.{AllByRecursion, filter_map, cons_option}
 use Rattle.std.proofs.lemmas.List.{length-map}
@@ -24,8 +24,7 @@ use Rattle.notice_ledger.proofs.Waiting.{waiting-pending}
 use Rattle.book_tables.specs.declared.tables.Standing.{Standing}
 use Rattle.book_tables.specs.declared.tables.Standing.TheVariants.{Flight, Held, Ready}
 use Rattle.book_tables.specs.declared.tables.Waiting.{Waiting}
-use Rattle.book_tables.specs.Notices.{rank, is_ready_standing, is_ready_mail_to, stage_by, same_stage, is_at_stage}
-use Rattle.book_tables.specs.Soonest.{since, ready_mail}
+use Rattle.book_tables.specs.Notices.{rank, is_ready_standing, is_mail_to, is_ready_mail_to, since, stage_by, same_stage, is_at_stage}
 use Rattle.book_tables.specs.Tables.{standing_by, notice_kept}
 
 -- the account at a stage
@@ -110,6 +109,10 @@ filter-both p (w ∷ ws) = by (p w) (filter-both p ws)
     by false e = omega arith
 
 -- ---- stamps
+
+-- the stamp of the event that made a mail notice of the user ready
+abbrev pub ready_mail : UserId → Waiting → Option ℕ
+ready_mail u w = if is_mail_to u w then since w.standing else None
 
 one_stamp : (n : Notice) (m : Bool) (t r : Option Occurrence) (c d : Bool) → is_pending (account_by (option_map (decided n) t) None (is_some r) c d) ≡ true
     → (if m then since (standing_by d (option_map (λ o. o.at) r)) else None) ≡ cond (m && same_account (account_by (option_map (decided n) t) None (is_some r) c d) account.Ready) (option_map (λ o. o.at) r) None

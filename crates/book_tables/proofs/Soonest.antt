@@ -1,9 +1,9 @@
 -- The least due moment, found in one pass over the notices that wait.
-use Rattle.std.proofs.Common.{◌≡◌, ℕ, zero, suc, ◌+◌, ◌<◌, ◌≤◌, Bool, true, false, ◌&&◌, ◌||◌, ◌==◌, List, [], ◌∷◌, ◌++◌, Option, Some, None, length, map, refl, sym, ap, ◌∙◌, subst, ◌⊎◌, inl, inr, ⊎_elim, arith}
+use Rattle.std.proofs.Common.{◌≡◌, ℕ, zero, suc, ◌+◌, ◌<◌, ◌≤◌, Bool, true, false, ◌&&◌, ◌||◌, ◌==◌, List, [], ◌∷◌, ◌++◌, Option, Some, None, length, map, min, refl, sym, ap, ◌∙◌, subst, ◌⊎◌, inl, inr, ⊎_elim, arith}
 use Rattle.std.specs.Prelude.{option_map, nat_lt, nat_le, fold, option_to_list, if◌then◌else◌}
 use Rattle.std.specs.Option.{option_map_or}
 use Rattle.std.specs.List.{AllByRecursion, filter_map, flat_map, cons_option, reduce, range_with_len}
-use Rattle.std.proofs.lemmas.Bool.{cases_lt, ltb-true, eqb-true, eq-eqb}
+use Rattle.std.proofs.lemmas.Bool.{cases_lt, ltb-true, ltb-false, eqb-true}
 use Rattle.std.proofs.lemmas.Bool.Decides.{nat_tests}
 use Rattle.std.proofs.lemmas.List.{append-nil, length-append}
 use Rattle.chat_model.specs.declared.event.Stamped.{Stamped}
@@ -12,37 +12,54 @@ use Rattle.chat_model.specs.declared.trigger.Way.{Way}
 use Rattle.chat_model.specs.declared.trigger.Way.TheVariants.{Mail, Push}
 use Rattle.notice_ledger.specs.Past.Journal.{Occurrence, occurrence}
 use Rattle.chat_model.specs.declared.trigger.Trigger.{Trigger}
-use Rattle.notice_ledger.specs.Past.Values.{SentMessage, message_of, person_of, people, users, messages, deal_count}
+use Rattle.notice_ledger.specs.Past.Values.{SentMessage, message_of, person_of, people, users, messages, deal_count, settings}
 use Rattle.notice_ledger.specs.Past.Triggers.{trigger, came_by}
 use Rattle.notice_ledger.specs.Past.Owed.{Notice, notices, account_of, is_pending, waiting, owed_by, owed_of, notice_of}
 use Rattle.notice_ledger.specs.Past.Due.{DueUser, due_user, first_due, sooner}
 use Rattle.notice_ledger.proofs.Lists.{AllByRecursion-append, AllByRecursion-weaker, AllByRecursion-filter, by_appending}
 use Rattle.notice_ledger.proofs.Appended.{notices-nil, notices-append, people-append}
 use Rattle.notice_ledger.proofs.Ascending.{Ascends}
-use Rattle.notice_ledger.proofs.Stamps.{AreStamped}
-use Rattle.book_tables.specs.declared.tables.Standing.{Standing}
-use Rattle.book_tables.specs.declared.tables.Standing.TheVariants.{Flight, Held, Ready}
-use Rattle.book_tables.specs.Notices.{rank}
+use Rattle.notice_ledger.proofs.Stamps.{AreStamped, lesser}
+use Rattle.book_tables.specs.Notices.{rank, since}
 use Rattle.book_tables.proofs.Standing.{due-there}
 use Rattle.book_tables.specs.declared.tables.Waiting.{Waiting}
 use Rattle.book_tables.specs.declared.tables.Tables.{Tables}
 use Rattle.book_tables.specs.Tables.{Holds, notice_kept}
 use Rattle.book_tables.proofs.Steps.{filter_map-push, reduce-push}
-use Rattle.book_tables.specs.Soonest.{since, ready_mail, lesser, due_by, due_of, sooner_of}
+use Rattle.book_tables.proofs.Kept.{ready_mail}
+
+-- each user's period after these events
+abbrev pub periods : List Stamped → UserId → ℕ
+periods past u = (settings past u).period
+
+-- when a mail notice that is ready is due on its own, by its user's period
+abbrev pub due_of : (UserId → ℕ) → Waiting → Option DueUser
+due_of p w = option_map (λ (at : ℕ). let d : DueUser = record { due = at + p w.user; user = w.user } in d) (ready_mail w.user w)
+
+-- of two users the one with the lesser due moment, at a tie the one with the lower number
+abbrev pub sooner_of : DueUser → DueUser → DueUser
+sooner_of a b = if nat_lt a.due b.due || (a.due == b.due && nat_le a.user.0 b.user.0) then a else b
 
 -- the least due moment among these
-abbrev pub soonest : List Waiting → Option DueUser
-soonest ws = reduce sooner_of (filter_map due_of ws)
+abbrev pub soonest : (UserId → ℕ) → List Waiting → Option DueUser
+soonest p ws = reduce sooner_of (filter_map (due_of p) ws)
 
 -- one more notice, that may be due
-pub soonest-push : (ws : List Waiting) (w : Waiting) (d : DueUser) → Some d ≡ due_of w → soonest (ws ++ w ∷ []) ≡ Some (option_map_or (λ a. sooner_of a d) (soonest ws) d)
-soonest-push ws w d e =
-    ap (reduce sooner_of) (filter_map-push due_of ws w ∙ ap (λ o. filter_map due_of ws ++ cons_option o []) (sym e)) ∙ reduce-push sooner_of (filter_map due_of ws) d
+pub soonest-push : (p : UserId → ℕ) (ws : List Waiting) (w : Waiting) (d : DueUser) → Some d ≡ due_of p w → soonest p (ws ++ w ∷ []) ≡ Some (option_map_or (λ a. sooner_of a d) (soonest p ws) d)
+soonest-push p ws w d e =
+    ap (reduce sooner_of) (filter_map-push (due_of p) ws w ∙ ap (λ o. filter_map (due_of p) ws ++ cons_option o []) (sym e)) ∙ reduce-push sooner_of (filter_map (due_of p) ws) d
 
--- one more notice, that is a push
-pub soonest-push_none : (ws : List Waiting) (w : Waiting) → None ≡ due_of w → soonest (ws ++ w ∷ []) ≡ soonest ws
-soonest-push_none ws w e =
-    ap (reduce sooner_of) (filter_map-push due_of ws w ∙ (ap (λ o. filter_map due_of ws ++ cons_option o []) (sym e) ∙ append-nil (filter_map due_of ws)))
+-- one more notice, that isn't due
+pub soonest-push_none : (p : UserId → ℕ) (ws : List Waiting) (w : Waiting) → None ≡ due_of p w → soonest p (ws ++ w ∷ []) ≡ soonest p ws
+soonest-push_none p ws w e =
+    ap (reduce sooner_of) (filter_map-push (due_of p) ws w ∙ (ap (λ o. filter_map (due_of p) ws ++ cons_option o []) (sym e) ∙ append-nil (filter_map (due_of p) ws)))
+
+-- the lesser of two stamps, as the program finds it
+pub lesser-min : (a b : ℕ) → min a b ≡ lesser a b
+lesser-min a b = elim (nat_lt b a) as (λ t. nat_lt b a ≡ t → min a b ≡ (if t then b else a)) [
+  | true ↦ λ h. let lt = ltb-true b a h in omega arith
+  | false ↦ λ h. let le = ltb-false b a h in omega arith
+] refl
 
 -- one more notice, that gives a stamp
 pub stamps-push : (u : UserId) (ws : List Waiting) (w : Waiting) (at : ℕ) → Some at ≡ ready_mail u w → reduce lesser (filter_map (ready_mail u) (ws ++ w ∷ [])) ≡ Some (option_map_or (λ a. lesser a at) (reduce lesser (filter_map (ready_mail u) ws)) at)
@@ -280,59 +297,59 @@ fold-one P n [] h all = h
 fold-one P n (m ∷ ns) h all = fold-one P (lesser n m) ns (elim (nat_lt m n) as (λ t. P (if t then m else n)) [ true ↦ all.0 | false ↦ h ]) all.1
 
 -- a user's due moment among notices
-abbrev user_due : List Waiting → UserId → Option DueUser
-user_due ws u = option_map (λ (m : ℕ). let d : DueUser = record { due = m + 120; user = u } in d) (reduce lesser (filter_map (ready_mail u) ws))
+abbrev user_due : (UserId → ℕ) → List Waiting → UserId → Option DueUser
+user_due p ws u = option_map (λ (m : ℕ). let d : DueUser = record { due = m + p u; user = u } in d) (reduce lesser (filter_map (ready_mail u) ws))
 
 -- the due moments of the notices that wait
-abbrev candidates : List Waiting → List DueUser
-candidates ws = filter_map due_of ws
+abbrev candidates : (UserId → ℕ) → List Waiting → List DueUser
+candidates p ws = filter_map (due_of p) ws
 
 -- what a notice gives: its own due moment, where it is a mail and ready
-given_by : (P : DueUser → Type 0) (way : Way) (g : Standing) (u : UserId) (ds : List DueUser) → ((at : ℕ) → rank way ≡ 0 → since g ≡ Some at → P (record { due = at + 120; user = u })) → AllByRecursion P ds → AllByRecursion P (cons_option (due_by way g u) ds)
-given_by P Mail Flight u ds h all = all
-given_by P Mail Held u ds h all = all
-given_by P Mail (Ready at) u ds h all = (h at refl refl, all)
-given_by P Push g u ds h all = all
+given_by : (P : DueUser → Type 0) (n : ℕ) (u : UserId) (o : Option ℕ) (ds : List DueUser) → ((at : ℕ) → o ≡ Some at → P (record { due = at + n; user = u })) → AllByRecursion P ds
+    → AllByRecursion P (cons_option (option_map (λ (at : ℕ). let d : DueUser = record { due = at + n; user = u } in d) o) ds)
+given_by P n u None ds h all = all
+given_by P n u (Some at) ds h all = (h at refl, all)
 
-taken_by : (P : DueUser → Type 0) (way : Way) (g : Standing) (u : UserId) (ds : List DueUser) → AllByRecursion P (cons_option (due_by way g u) ds) → ((at : ℕ) → rank way ≡ 0 → since g ≡ Some at → P (record { due = at + 120; user = u })) × AllByRecursion P ds
-taken_by P Mail Flight u ds all = (λ at m e. absurd (cc), all)
-taken_by P Mail Held u ds all = (λ at m e. absurd (cc), all)
-taken_by P Mail (Ready since) u ds all = (λ at m e. let same : since ≡ at = cc in subst (λ (n : ℕ). P (record { due = n + 120; user = u })) same all.0, all.1)
-taken_by P Push g u ds all = (λ at m e. absurd (omega arith), all)
+taken_by : (P : DueUser → Type 0) (n : ℕ) (u : UserId) (o : Option ℕ) (ds : List DueUser)
+    → AllByRecursion P (cons_option (option_map (λ (at : ℕ). let d : DueUser = record { due = at + n; user = u } in d) o) ds)
+    → ((at : ℕ) → o ≡ Some at → P (record { due = at + n; user = u })) × AllByRecursion P ds
+taken_by P n u None ds all = (λ at e. absurd (cc), all)
+taken_by P n u (Some since) ds all = (λ at e. let same : since ≡ at = cc in subst (λ (m : ℕ). P (record { due = m + n; user = u })) same all.0, all.1)
 
--- a stamp that a notice gives for a user
-stamp_from : (u : UserId) (w : Waiting) (at : ℕ) → ready_mail u w ≡ Some at → (w.user ≡ u) × (rank w.way ≡ 0) × (since w.standing ≡ Some at)
-stamp_from u w at e = by (w.user.0 == u.0) (rank w.way == 0) refl refl e
+-- a notice that gives a stamp for a user is the user's
+stamp_from : (u : UserId) (w : Waiting) (at : ℕ) → ready_mail u w ≡ Some at → w.user ≡ u
+stamp_from u w at e = by (w.user.0 == u.0) (rank w.way == 0) refl e
   where
-    by : (a b : Bool) → (w.user.0 == u.0) ≡ a → (rank w.way == 0) ≡ b → (if a && b then since w.standing else None) ≡ Some at → (w.user ≡ u) × (rank w.way ≡ 0) × (since w.standing ≡ Some at)
-    by true true p q h = (same_user w.user u (eqb-true w.user.0 u.0 p), eqb-true (rank w.way) 0 q, h)
-    by true false p q h = absurd (cc)
-    by false b p q h = absurd (cc)
+    by : (a b : Bool) → (w.user.0 == u.0) ≡ a → (if a && b then since w.standing else None) ≡ Some at → w.user ≡ u
+    by true b q h = same_user w.user u (eqb-true w.user.0 u.0 q)
+    by false b q h = absurd (cc)
 
 -- what holds of each candidate holds of each stamp of a user
-stamps_hold : (P : DueUser → Type 0) (u : UserId) (ws : List Waiting) → AllByRecursion P (candidates ws) → AllByRecursion (λ at. P (record { due = at + 120; user = u })) (filter_map (ready_mail u) ws)
-stamps_hold P u [] all = tt
-stamps_hold P u (w ∷ ws) all =
-    let taken = taken_by P w.way w.standing w.user (candidates ws) all in
-    by (ready_mail u w) (λ at e. let is = stamp_from u w at e in subst (λ (v : UserId). P (record { due = at + 120; user = v })) is.0 (taken.0 at is.1 is.2)) (stamps_hold P u ws taken.1)
+stamps_hold : (p : UserId → ℕ) (P : DueUser → Type 0) (u : UserId) (ws : List Waiting) → AllByRecursion P (candidates p ws) → AllByRecursion (λ at. P (record { due = at + p u; user = u })) (filter_map (ready_mail u) ws)
+stamps_hold p P u [] all = tt
+stamps_hold p P u (w ∷ ws) all =
+    let taken = taken_by P (p w.user) w.user (ready_mail w.user w) (candidates p ws) all in
+    by (ready_mail u w) (λ at e.
+    let is = stamp_from u w at e in
+    subst (λ (v : UserId). P (record { due = at + p v; user = v })) is (taken.0 at (ap (λ v. ready_mail v w) is ∙ e))) (stamps_hold p P u ws taken.1)
   where
-    by : (o : Option ℕ) → ((at : ℕ) → o ≡ Some at → P (record { due = at + 120; user = u })) → AllByRecursion (λ at. P (record { due = at + 120; user = u })) (filter_map (ready_mail u) ws) → AllByRecursion (λ at. P (record { due = at + 120; user = u })) (cons_option o (filter_map (ready_mail u) ws))
+    by : (o : Option ℕ) → ((at : ℕ) → o ≡ Some at → P (record { due = at + p u; user = u })) → AllByRecursion (λ at. P (record { due = at + p u; user = u })) (filter_map (ready_mail u) ws) → AllByRecursion (λ at. P (record { due = at + p u; user = u })) (cons_option o (filter_map (ready_mail u) ws))
     by None f rest = rest
     by (Some at) f rest = (f at refl, rest)
 
 -- and of the user's due moment
-dues_hold : (P : DueUser → Type 0) (ws : List Waiting) (us : List UserId) → AllByRecursion P (candidates ws) → AllByRecursion P (filter_map (user_due ws) us)
-dues_hold P ws [] all = tt
-dues_hold P ws (u ∷ us) all = by (filter_map (ready_mail u) ws) (stamps_hold P u ws all) (dues_hold P ws us all)
+dues_hold : (p : UserId → ℕ) (P : DueUser → Type 0) (ws : List Waiting) (us : List UserId) → AllByRecursion P (candidates p ws) → AllByRecursion P (filter_map (user_due p ws) us)
+dues_hold p P ws [] all = tt
+dues_hold p P ws (u ∷ us) all = by (filter_map (ready_mail u) ws) (stamps_hold p P u ws all) (dues_hold p P ws us all)
   where
-    by : (ns : List ℕ) → AllByRecursion (λ at. P (record { due = at + 120; user = u })) ns → AllByRecursion P (filter_map (user_due ws) us)
-        → AllByRecursion P (cons_option (option_map (λ (m : ℕ). let d : DueUser = record { due = m + 120; user = u } in d) (reduce lesser ns)) (filter_map (user_due ws) us))
+    by : (ns : List ℕ) → AllByRecursion (λ at. P (record { due = at + p u; user = u })) ns → AllByRecursion P (filter_map (user_due p ws) us)
+        → AllByRecursion P (cons_option (option_map (λ (m : ℕ). let d : DueUser = record { due = m + p u; user = u } in d) (reduce lesser ns)) (filter_map (user_due p ws) us))
     by [] hold rest = rest
-    by (n ∷ ns) hold rest = (fold-one (λ at. P (record { due = at + 120; user = u })) n ns hold.0 hold.1, rest)
+    by (n ∷ ns) hold rest = (fold-one (λ at. P (record { due = at + p u; user = u })) n ns hold.0 hold.1, rest)
 
 -- a user's due moment is at most that of each ready mail of the user
 abbrev HasSooner : List Waiting → Waiting → Type 0
-HasSooner ws w = (at : ℕ) → rank w.way ≡ 0 → since w.standing ≡ Some at → (m : ℕ) × (reduce lesser (filter_map (ready_mail w.user) ws) ≡ Some m) × (m ≤ at)
+HasSooner ws w = (at : ℕ) → ready_mail w.user w ≡ Some at → (m : ℕ) × (reduce lesser (filter_map (ready_mail w.user) ws) ≡ Some m) × (m ≤ at)
 
 least_stamp : (ns : List ℕ) (at : ℕ) → list_has at ns → (m : ℕ) × (reduce lesser ns ≡ Some m) × (m ≤ at)
 least_stamp [] at has = absurd has
@@ -344,14 +361,10 @@ least_stamp (n ∷ ns) at has =
     among [] all has = absurd has
     among (m ∷ ms) all has = ⊎_elim (λ e. omega (arith, all.0, e)) (λ later. among ms all.1 later) has
 
--- the stamp of a notice is among those of its user
-stamp_among : (w : Waiting) (at : ℕ) → rank w.way ≡ 0 → since w.standing ≡ Some at → ready_mail w.user w ≡ Some at
-stamp_among w at mail e = ap (λ b. if b then since w.standing else None) (ap (λ b. b && (rank w.way == 0)) (eq-eqb w.user.0 w.user.0 refl) ∙ eq-eqb (rank w.way) 0 mail) ∙ e
-
 has_stamp : (ws all : List Waiting) → ((u : UserId) (at : ℕ) → list_has at (filter_map (ready_mail u) ws) → list_has at (filter_map (ready_mail u) all)) → AllByRecursion (HasSooner all) ws
 has_stamp [] all within = tt
 has_stamp (w ∷ ws) all within = (
-  λ at mail e. least_stamp (filter_map (ready_mail w.user) all) at (within w.user at (here (ready_mail w.user w) at (stamp_among w at mail e) (filter_map (ready_mail w.user) ws))),
+  λ at e. least_stamp (filter_map (ready_mail w.user) all) at (within w.user at (here (ready_mail w.user w) at e (filter_map (ready_mail w.user) ws))),
   has_stamp ws all (λ u at has. within u at (later (ready_mail u w) at (filter_map (ready_mail u) ws) has)),
 )
   where
@@ -364,29 +377,29 @@ has_stamp (w ∷ ws) all within = (
     later (Some n) at ns has = inr has
 
 -- what is before each user's due moment is before each of them
-all_later : (r : DueUser) (ws all : List Waiting) (n : ℕ) → AllByRecursion (HasSooner all) ws → AllByRecursion (λ w. IsWithin n w.user) ws → ((u : UserId) (d : DueUser) → IsWithin n u → user_due all u ≡ Some d → Before r d) → AllByRecursion (Before r) (candidates ws)
-all_later r [] all n sooners there before = tt
-all_later r (w ∷ ws) all n sooners there before =
-    given_by (Before r) w.way w.standing w.user (candidates ws)
-    (λ at mail e.
-    let first = sooners.0 at mail e in
-    let d : DueUser = record { due = first.0 + 120; user = w.user } in
-    before-then r d (record { due = at + 120; user = w.user })
-    (before w.user d there.0 (ap (option_map (λ (m : ℕ). let e : DueUser = record { due = m + 120; user = w.user } in e)) first.1))
-    (not_later first.0 at w.user first.2))
-    (all_later r ws all n sooners.1 there.1 before)
+all_later : (p : UserId → ℕ) (r : DueUser) (ws all : List Waiting) (n : ℕ) → AllByRecursion (HasSooner all) ws → AllByRecursion (λ w. IsWithin n w.user) ws → ((u : UserId) (d : DueUser) → IsWithin n u → user_due p all u ≡ Some d → Before r d) → AllByRecursion (Before r) (candidates p ws)
+all_later p r [] all n sooners there before = tt
+all_later p r (w ∷ ws) all n sooners there before =
+    given_by (Before r) (p w.user) w.user (ready_mail w.user w) (candidates p ws)
+    (λ at e.
+    let first = sooners.0 at e in
+    let d : DueUser = record { due = first.0 + p w.user; user = w.user } in
+    before-then r d (record { due = at + p w.user; user = w.user })
+    (before w.user d there.0 (ap (option_map (λ (m : ℕ). let e : DueUser = record { due = m + p w.user; user = w.user } in e)) first.1))
+    (not_later first.0 at (p w.user) w.user first.2))
+    (all_later p r ws all n sooners.1 there.1 before)
   where
-    not_later : (a b : ℕ) (u : UserId) → a ≤ b → Before (record { due = a + 120; user = u }) (record { due = b + 120; user = u })
-    not_later a b u le =
+    not_later : (a b more : ℕ) (u : UserId) → a ≤ b → Before (record { due = a + more; user = u }) (record { due = b + more; user = u })
+    not_later a b more u le =
         ⊎_elim (λ lt. inl (omega arith)) (λ ge. inr (omega arith, omega arith)) (cases_lt a b)
 
-among_users : (r : DueUser) (ws : List Waiting) (start len : ℕ) → AllByRecursion (Before r) (filter_map (user_due ws) (map (λ n. let u : UserId = record { 0 = n } in u) (range_with_len start len))) → (k : ℕ) (d : DueUser) → start ≤ k → k < start + len → user_due ws (record { 0 = k }) ≡ Some d → Before r d
-among_users r ws start zero all k d low high e = absurd (omega arith)
-among_users r ws start (suc len) all k d low high e =
-    let here = here_or_later (user_due ws (record { 0 = start })) (filter_map (user_due ws) (map (λ n. let u : UserId = record { 0 = n } in u) (range_with_len (start + 1) len))) all in
+among_users : (p : UserId → ℕ) (r : DueUser) (ws : List Waiting) (start len : ℕ) → AllByRecursion (Before r) (filter_map (user_due p ws) (map (λ n. let u : UserId = record { 0 = n } in u) (range_with_len start len))) → (k : ℕ) (d : DueUser) → start ≤ k → k < start + len → user_due p ws (record { 0 = k }) ≡ Some d → Before r d
+among_users p r ws start zero all k d low high e = absurd (omega arith)
+among_users p r ws start (suc len) all k d low high e =
+    let here = here_or_later (user_due p ws (record { 0 = start })) (filter_map (user_due p ws) (map (λ n. let u : UserId = record { 0 = n } in u) (range_with_len (start + 1) len))) all in
     ⊎_elim
-    (λ lt. among_users r ws (start + 1) len here.1 k d (omega arith) (omega arith) e)
-    (λ ge. let same : start ≡ k = omega arith in here.0 d (ap (λ n. user_due ws (record { 0 = n })) same ∙ e))
+    (λ lt. among_users p r ws (start + 1) len here.1 k d (omega arith) (omega arith) e)
+    (λ ge. let same : start ≡ k = omega arith in here.0 d (ap (λ n. user_due p ws (record { 0 = n })) same ∙ e))
     (cases_lt start k)
   where
     here_or_later : (o : Option DueUser) (ds : List DueUser) → AllByRecursion (Before r) (cons_option o ds) → ((d : DueUser) → o ≡ Some d → Before r d) × AllByRecursion (Before r) ds
@@ -396,42 +409,42 @@ among_users r ws start (suc len) all k d low high e =
         some_same : {a b : DueUser} → Some a ≡ Some b → a ≡ b
         some_same e = cc
 
-from_first : (ws : List Waiting) (low first many : ℕ) → low ≤ first → AllByRecursion (λ d. low ≤ d.user.0) (filter_map (user_due ws) (map (λ n. let u : UserId = record { 0 = n } in u) (range_with_len first many)))
-from_first ws low first zero le = tt
-from_first ws low first (suc many) le = with_one (reduce lesser (filter_map (ready_mail (record { 0 = first })) ws)) (filter_map (user_due ws) (map (λ n. let u : UserId = record { 0 = n } in u) (range_with_len (first + 1) many))) (from_first ws low (first + 1) many (omega arith))
+from_first : (p : UserId → ℕ) (ws : List Waiting) (low first many : ℕ) → low ≤ first → AllByRecursion (λ d. low ≤ d.user.0) (filter_map (user_due p ws) (map (λ n. let u : UserId = record { 0 = n } in u) (range_with_len first many)))
+from_first p ws low first zero le = tt
+from_first p ws low first (suc many) le = with_one (reduce lesser (filter_map (ready_mail (record { 0 = first })) ws)) (filter_map (user_due p ws) (map (λ n. let u : UserId = record { 0 = n } in u) (range_with_len (first + 1) many))) (from_first p ws low (first + 1) many (omega arith))
   where
-    with_one : (o : Option ℕ) (ds : List DueUser) → AllByRecursion (λ d. low ≤ d.user.0) ds → AllByRecursion (λ d. low ≤ d.user.0) (cons_option (option_map (λ (m : ℕ). let d : DueUser = record { due = m + 120; user = record { 0 = first } } in d) o) ds)
+    with_one : (o : Option ℕ) (ds : List DueUser) → AllByRecursion (λ d. low ≤ d.user.0) ds → AllByRecursion (λ d. low ≤ d.user.0) (cons_option (option_map (λ (m : ℕ). let d : DueUser = record { due = m + p (record { 0 = first }); user = record { 0 = first } } in d) o) ds)
     with_one None ds all = all
     with_one (Some n) ds all = (le, all)
 
 -- users with a due moment ascend
-dues-ascend : (ws : List Waiting) (start len : ℕ) → Ascends (λ d. d.user.0) (filter_map (user_due ws) (map (λ n. let u : UserId = record { 0 = n } in u) (range_with_len start len)))
-dues-ascend ws start zero = tt
-dues-ascend ws start (suc len) =
-    with_next (reduce lesser (filter_map (ready_mail (record { 0 = start })) ws)) (filter_map (user_due ws) (map (λ n. let u : UserId = record { 0 = n } in u) (range_with_len (start + 1) len))) (from_first ws start (start + 1) len (omega arith)) (dues-ascend ws (start + 1) len)
+dues-ascend : (p : UserId → ℕ) (ws : List Waiting) (start len : ℕ) → Ascends (λ d. d.user.0) (filter_map (user_due p ws) (map (λ n. let u : UserId = record { 0 = n } in u) (range_with_len start len)))
+dues-ascend p ws start zero = tt
+dues-ascend p ws start (suc len) =
+    with_next (reduce lesser (filter_map (ready_mail (record { 0 = start })) ws)) (filter_map (user_due p ws) (map (λ n. let u : UserId = record { 0 = n } in u) (range_with_len (start + 1) len))) (from_first p ws start (start + 1) len (omega arith)) (dues-ascend p ws (start + 1) len)
   where
-    with_next : (o : Option ℕ) (ds : List DueUser) → AllByRecursion (λ d. start ≤ d.user.0) ds → Ascends (λ d. d.user.0) ds → Ascends (λ d. d.user.0) (cons_option (option_map (λ (m : ℕ). let d : DueUser = record { due = m + 120; user = record { 0 = start } } in d) o) ds)
+    with_next : (o : Option ℕ) (ds : List DueUser) → AllByRecursion (λ d. start ≤ d.user.0) ds → Ascends (λ d. d.user.0) ds → Ascends (λ d. d.user.0) (cons_option (option_map (λ (m : ℕ). let d : DueUser = record { due = m + p (record { 0 = start }); user = record { 0 = start } } in d) o) ds)
     with_next None ds low up = up
     with_next (Some n) ds low up = (low, up)
 
-due_users : (t : Tables) (j : List Stamped) → Holds t j → AreStamped j → (us : List UserId) → filter_map (user_due t.waiting.items) us ≡ filter_map (due_user j) us
+due_users : (t : Tables) (j : List Stamped) → Holds t j → AreStamped j → (us : List UserId) → filter_map (user_due (periods j) t.waiting.items) us ≡ filter_map (due_user j) us
 due_users t j holds stamped [] = refl
 due_users t j holds stamped (u ∷ us) =
-    ap (λ o. cons_option o (filter_map (user_due t.waiting.items) us)) (twice (reduce lesser (filter_map (ready_mail u) t.waiting.items)) ∙ ap (option_map (λ (m : ℕ). let d : DueUser = record { due = m; user = u } in d)) (due-there t j holds stamped u))
+    ap (λ o. cons_option o (filter_map (user_due (periods j) t.waiting.items) us)) (twice (reduce lesser (filter_map (ready_mail u) t.waiting.items)) ∙ ap (option_map (λ (m : ℕ). let d : DueUser = record { due = m; user = u } in d)) (due-there t j holds stamped u))
     ∙ ap (cons_option (due_user j u)) (due_users t j holds stamped us)
   where
-    twice : (o : Option ℕ) → option_map (λ (m : ℕ). let d : DueUser = record { due = m + 120; user = u } in d) o ≡ option_map (λ (m : ℕ). let d : DueUser = record { due = m; user = u } in d) (option_map (λ (m : ℕ). m + 120) o)
+    twice : (o : Option ℕ) → option_map (λ (m : ℕ). let d : DueUser = record { due = m + periods j u; user = u } in d) o ≡ option_map (λ (m : ℕ). let d : DueUser = record { due = m; user = u } in d) (option_map (λ (m : ℕ). m + periods j u) o)
     twice None = refl
     twice (Some n) = refl
 
 -- the least due moment of the notices that wait is that of the first who is due
-pub soonest-first_due : (t : Tables) (j : List Stamped) → Holds t j → AreStamped j → soonest t.waiting.items ≡ first_due j
+pub soonest-first_due : (t : Tables) (j : List Stamped) → Holds t j → AreStamped j → soonest (periods j) t.waiting.items ≡ first_due j
 unfolding first_due
 soonest-first_due t j holds stamped =
-    let ws = t.waiting.items in let many = length (people j) in
+    let p = periods j in let ws = t.waiting.items in let many = length (people j) in
     let there = subst (λ (vs : List Waiting). AllByRecursion (λ w. IsWithin many w.user) vs) (sym holds.waiting) (kept-within j) in
-    same_least (candidates ws) (filter_map (user_due ws) (users j))
-    (λ P all. dues_hold P ws (users j) all)
-    (λ r all. all_later r ws ws many (has_stamp ws ws (λ u at has. has)) there (λ u d it e. among_users r ws 1 many all u.0 d it.0 (omega (arith, it.1)) e))
-    (dues-ascend ws 1 many)
+    same_least (candidates p ws) (filter_map (user_due p ws) (users j))
+    (λ P all. dues_hold p P ws (users j) all)
+    (λ r all. all_later p r ws ws many (has_stamp ws ws (λ u at has. has)) there (λ u d it e. among_users p r ws 1 many all u.0 d it.0 (omega (arith, it.1)) e))
+    (dues-ascend p ws 1 many)
     ∙ ap (reduce sooner) (due_users t j holds stamped (users j))

@@ -11,9 +11,8 @@ use Rattle.chat_model.specs.declared.ids.ChannelId.{ChannelId}
 use Rattle.chat_model.specs.declared.ids.GroupId.{GroupId}
 use Rattle.chat_model.specs.declared.mentions.UserName.{UserName}
 use Rattle.chat_model.specs.declared.mentions.GroupName.{GroupName}
-use Rattle.notice_ledger.specs.Past.Values.{numbered, Person, people, named_from, user_names, user_name, users, is_user, messages, deal_count, named_groups_from, groups, group_names, group_name, is_group, is_member, member_count, channels, subscribed, subscriber_count}
+use Rattle.notice_ledger.specs.Past.Values.{numbered, Person, people, named_from, user_names, user_name, users, is_user, messages, deal_count, named_groups_from, groups, group_names, group_name, is_group, is_member, member_count, channels, subscribed, subscriber_count, settings}
 use Rattle.notice_ledger.specs.Past.Owed.{waiting}
-use Rattle.notice_ledger.proofs.SettingLemmas.{settings-period}
 use Rattle.notice_ledger.specs.Past.Due.{due, batch_rows}
 use Rattle.notice_ledger.specs.Past.Refusals.{is_taken}
 use Rattle.chat_model.specs.declared.counts.Counts.{Counts}
@@ -21,7 +20,7 @@ use Rattle.notice_ledger.specs.Past.Audit.{counts_of, in_64_bits}
 use Rattle.notice_ledger.proofs.Sent.{deal_count-messages}
 use Rattle.notice_ledger.specs.Past.Audit.{same_account}
 use Rattle.notice_ledger.specs.Past.Owed.{account_of}
-use Rattle.notice_ledger.proofs.Stamps.{AreStamped, ready_stamp, due-least}
+use Rattle.notice_ledger.proofs.Stamps.{AreStamped, lesser, due-least}
 use Rattle.chat_model.specs.declared.row.Stage.{Stage}
 use Rattle.chat_model.specs.declared.row.Stage.TheVariants as stage
 use Rattle.std.specs.List.{reduce}
@@ -31,8 +30,7 @@ use Rattle.book_tables.specs.declared.tables.Tables.{Tables}
 use Rattle.book_tables.specs.UserSets.{has_in, size_in}
 use Rattle.book_tables.specs.Tables.{Holds, message_kept}
 use Rattle.book_tables.specs.Notices.{is_at_stage, is_ready_mail_to}
-use Rattle.book_tables.specs.Soonest.{ready_mail, lesser}
-use Rattle.book_tables.proofs.Kept.{account_at, mails-kept, stages-kept, stamps-kept}
+use Rattle.book_tables.proofs.Kept.{account_at, mails-kept, ready_mail, stages-kept, stamps-kept}
 use Rattle.book_tables.proofs.SetSizes.{size_in-counted}
 
 -- ---- lists
@@ -146,11 +144,10 @@ module _ (t : Tables) (past : List Stamped) (holds : Holds t past) where
   some-member [] u = refl
   some-member (g ∷ gs) u = ap (λ b. b || list_any (λ (h : GroupId). has_in t.members.items h.0 u) gs) (holds.members g u) ∙ ap (λ b. is_member past g u || b) (some-member gs u)
 
-  pub due-there : AreStamped past → (u : UserId) → option_map (λ at. at + 120) (reduce lesser (filter_map (ready_mail u) t.waiting.items)) ≡ due past u
+  pub due-there : AreStamped past → (u : UserId) → option_map (λ at. at + (settings past u).period) (reduce lesser (filter_map (ready_mail u) t.waiting.items)) ≡ due past u
   due-there stamped u =
-      ap (λ ws. option_map (λ at. at + 120) (reduce lesser (filter_map (ready_mail u) ws))) holds.waiting
-      ∙ (ap (λ ns. option_map (λ at. at + 120) (reduce lesser ns)) (stamps-kept u past)
-      ∙ (ap (λ p. option_map (λ at. at + p) (reduce lesser (filter_map (ready_stamp past) (batch_rows past u)))) (sym (settings-period past u)) ∙ sym (due-least past u stamped)))
+      ap (λ ws. option_map (λ at. at + (settings past u).period) (reduce lesser (filter_map (ready_mail u) ws))) holds.waiting
+      ∙ (ap (λ ns. option_map (λ at. at + (settings past u).period) (reduce lesser ns)) (stamps-kept u past) ∙ sym (due-least past u stamped))
 
   -- how many notices wait at a stage
   stage-there : (g : Stage) → length (filter (is_at_stage g) t.waiting.items) ≡ count_by (λ n. same_account (account_of past n) (account_at g)) (waiting past)

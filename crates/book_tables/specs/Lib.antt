@@ -5,7 +5,6 @@ pub mod Notices
 pub mod Tables
 pub mod Gathered
 pub mod Rules
-pub mod Soonest
 pub mod Applied
 pub mod Rooms
 pub mod Prepared

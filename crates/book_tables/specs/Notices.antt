@@ -22,6 +22,11 @@ is_ready_standing _ = false
 abbrev pub is_ready : Waiting → Bool
 is_ready w = is_ready_standing w.standing
 
+-- the stamp of the event that made a notice ready
+abbrev pub since : Standing → Option ℕ
+since (Ready at) = Some at
+since _ = None
+
 -- in flight or held
 abbrev pub is_undecided : Waiting → Bool
 is_undecided w = not (is_ready w)

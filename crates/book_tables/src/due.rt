@@ -1,46 +1,31 @@
 //! When mails are due.
-ghost use Rattle.std.specs.Prelude.{◌≡◌, List, option_map};
+ghost use Rattle.std.specs.Prelude.{◌≡◌, ◌≤◌, ◌+◌, ◌&&◌, ◌||◌, ◌==◌, min, nat_lt, nat_le, List, None, option_map, if◌then◌else◌};
 ghost use Rattle.std.specs.Option.{option_map_or};
 ghost use Rattle.chat_model.specs.declared.event.Stamped.{Stamped};
+ghost use Rattle.notice_ledger.specs.Limits.{longest_period};
 ghost use Rattle.notice_ledger.specs.Due.{due, first_due};
+ghost use Rattle.book_tables.specs.Notices.{is_mail_to, since};
 ghost use Rattle.book_tables.specs.Tables.{found_due};
-ghost use Rattle.book_tables.specs.Soonest.{ready_mail, lesser, due_of, sooner_of};
 
 use crate::tables::{DueUser, Standing, Tables, Waiting};
-use chat_model::{Moment, UserId, Way};
+use chat_model::{Moment, UserId};
 
-/// How many seconds a user's mails wait.
-const PERIOD: u64 = 120;
-
-/// When a mail notice that is ready would be due on its own, and for whom; nothing of another notice.
-fn due_of(notice: &Waiting) -> Option<DueUser>
-    ensures { option_map found_due result ≡ due_of notice.now }
-{
-    match (notice.way, notice.standing) {
-        (Way::Mail, Standing::Ready(ready)) => Some(DueUser {
-            due: ready.seconds() + PERIOD,
-            user: notice.user,
-        }),
-        _ => None,
-    }
-}
-
-/// The stamp at which a mail notice of the user became ready.
-fn ready_mail(notice: &Waiting, user: UserId) -> Option<Moment>
-    ensures { result ≡ ready_mail user notice.now }
+/// Since when the notice is ready, where it is a mail notice of the user.
+fn mail_since(notice: &Waiting, user: UserId) -> Option<Moment>
+    ensures { result ≡ (if is_mail_to user notice.now then since notice.now.standing else None) }
 {
     if !notice.is_mail_to(user) {
         return None;
     }
     match notice.standing {
-        Standing::Ready(ready) => Some(ready),
+        Standing::Ready(since) => Some(since),
         _ => None,
     }
 }
 
 /// Of two stamps the lesser.
 fn lesser(first: Option<Moment>, next: Moment) -> Moment
-    ensures { result ≡ option_map_or (λ a. lesser a next) first next }
+    ensures { result ≡ option_map_or (λ a. min a next) first next }
 {
     match first {
         Some(first) if first.seconds() <= next.seconds() => first,
@@ -48,9 +33,18 @@ fn lesser(first: Option<Moment>, next: Moment) -> Moment
     }
 }
 
+/// So many seconds after a stamp. No user's period is longer than the longest.
+fn after(since: Moment, period: u64) -> u64
+    ensures { period ≤ longest_period → result ≡ since + period }
+{
+    since.seconds().saturating_add(period)
+}
+
 /// Of two users the one with the lesser due moment, at a tie the one with the lower number.
 fn sooner(first: Option<DueUser>, next: DueUser) -> DueUser
-    ensures { found_due result ≡ option_map_or (λ a. sooner_of a (found_due next)) (option_map found_due first) (found_due next) }
+    ensures { found_due result ≡ option_map_or
+        (λ a. if nat_lt a.due next.due || (a.due == next.due && nat_le a.user.0 next.user.0) then found_due a else found_due next)
+        first (found_due next) }
 {
     match first {
         Some(first)
@@ -70,12 +64,12 @@ impl Tables {
     {
         let mut first = None;
         for notice in &self.waiting {
-            if let Some(ready) = ready_mail(notice, user) {
-                first = Some(lesser(first, ready));
+            if let Some(since) = mail_since(notice, user) {
+                first = Some(lesser(first, since));
             }
         }
         match first {
-            Some(ready) => Some(ready.seconds() + PERIOD),
+            Some(since) => Some(after(since, self.settings(user).period)),
             None => None,
         }
     }
@@ -86,8 +80,10 @@ impl Tables {
     {
         let mut first = None;
         for notice in &self.waiting {
-            if let Some(due) = due_of(notice) {
-                first = Some(sooner(first, due));
+            let user = notice.user;
+            if let Some(since) = mail_since(notice, user) {
+                let due = after(since, self.settings(user).period);
+                first = Some(sooner(first, DueUser { due, user }));
             }
         }
         first

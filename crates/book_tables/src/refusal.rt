@@ -6,15 +6,16 @@ ghost use Rattle.std.specs.List.{list_all, list_any};
 ghost use Rattle.chat_model.specs.declared.event.Stamped.{Stamped};
 ghost use Rattle.chat_model.specs.declared.policy.Policy.{Policy};
 ghost use Rattle.chat_model.specs.declared.policy.SpecificChange.{SpecificChange};
-ghost use Rattle.chat_model.specs.declared.settings.SettingChange.{SettingChange};
 ghost use Rattle.notice_ledger.specs.Past.Refusals.{first_broken, is_taken};
 ghost use Rattle.notice_ledger.specs.Limits.{longest_text, longest_topic, longest_name, most_items};
 ghost use Rattle.book_tables.specs.Rules.{tested_rule};
 
 use crate::sets::{is_in_set, size_of_set};
 use crate::tables::{Tables, is_there};
-use chat_model::{ChannelId, GroupId, GroupName, Refusal, Request, Text, UserId, UserName};
-use notice_ledger::{is_bad_name, is_blank, is_longer_than};
+use chat_model::{
+    ChannelId, GroupId, GroupName, Refusal, Request, SettingChange, Text, UserId, UserName,
+};
+use notice_ledger::{is_bad_name, is_bad_period, is_blank, is_longer_than};
 
 // In characters.
 const LONGEST_TEXT: usize = 10_000;
@@ -177,10 +178,13 @@ impl Tables {
         self.is_user(sender) && self.are_users(users)
     }
 
-    fn setting_refusal(&self, user: UserId) -> Option<Refusal>
-        ensures { (past : List Stamped) (change : SettingChange) → Holds self.now past → result ≡ behind.refusal past (Request.Set user change) }
+    fn setting_refusal(&self, user: UserId, change: SettingChange) -> Option<Refusal>
+        ensures { (past : List Stamped) → Holds self.now past → result ≡ behind.refusal past (Request.Set user change) }
     {
-        first_broken(&[(!self.is_user(user), Refusal::NoUser)])
+        first_broken(&[
+            (!self.is_user(user), Refusal::NoUser),
+            (is_bad_period(change), Refusal::BadPeriod),
+        ])
     }
 
     fn specific_refusal(&self, user: UserId, channel: ChannelId) -> Option<Refusal>
@@ -242,7 +246,7 @@ impl Tables {
             Request::Subscribe { user, channel, .. } => {
                 self.subscription_refusal(*user, *channel)
             }
-            Request::Set { user, .. } => self.setting_refusal(*user),
+            Request::Set { user, change } => self.setting_refusal(*user, *change),
             Request::SetChannel { user, channel, .. } => self.specific_refusal(*user, *channel),
             Request::SetPolicy {
                 user,

@@ -14,7 +14,7 @@ use Rattle.chat_model.specs.declared.mentions.GroupName.{GroupName}
 use Rattle.chat_model.specs.declared.request.Request.{Request}
 use Rattle.chat_model.specs.declared.request.Request.TheVariants.{AddUser, AddGroup, Member, AddChannel, Subscribe, Set, SetChannel, SetPolicy, Mute, Send, Direct}
 use Rattle.chat_model.specs.declared.settings.SettingChange.{SettingChange}
-use Rattle.chat_model.specs.declared.settings.SettingChange.TheVariants.{MailMentions, PushMentions, PushOnline, ChannelMail, ChannelPush, Wildcards, FollowedMail, FollowedPush, FollowedWildcards}
+use Rattle.chat_model.specs.declared.settings.SettingChange.TheVariants.{MailMentions, PushMentions, PushOnline, ChannelMail, ChannelPush, Wildcards, FollowedMail, FollowedPush, FollowedWildcards, Period}
 use Rattle.chat_model.specs.declared.policy.SpecificChange.{SpecificChange}
 use Rattle.chat_model.specs.declared.policy.SpecificChange.TheVariants as specific
 use Rattle.chat_model.specs.declared.ids.DealNo.{DealNo}
@@ -153,6 +153,7 @@ setting_change_exact (Wildcards on) (Wildcards on') = (λ h. grind (arith, commo
 setting_change_exact (FollowedMail on) (FollowedMail on') = (λ h. grind (arith, common_steps), λ h. grind (arith, common_steps))
 setting_change_exact (FollowedPush on) (FollowedPush on') = (λ h. grind (arith, common_steps), λ h. grind (arith, common_steps))
 setting_change_exact (FollowedWildcards on) (FollowedWildcards on') = (λ h. grind (arith, common_steps), λ h. grind (arith, common_steps))
+setting_change_exact (Period n) (Period m) = (λ h. grind (arith, common_steps), λ h. grind (arith, common_steps))
 setting_change_exact _ _ = (λ h. cc, λ h. cc)
 
 specific_change_exact : (a b : SpecificChange) → Decides ((specific_change_eq.ghosts).eq a b) (a ≡ b)

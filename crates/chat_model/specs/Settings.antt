@@ -1,8 +1,8 @@
 -- The settings of a new user, what changes of settings give, and the switch of a push turn.
-use Rattle.std.specs.Prelude.{Bool, true, false, ◌||◌, Option, Some, None}
+use Rattle.std.specs.Prelude.{ℕ, Bool, true, false, ◌||◌, Option, Some, None}
 use Rattle.chat_model.specs.declared.settings.Settings.{Settings}
 use Rattle.chat_model.specs.declared.settings.SettingChange.{SettingChange}
-use Rattle.chat_model.specs.declared.settings.SettingChange.TheVariants.{MailMentions, PushMentions, PushOnline, ChannelMail, ChannelPush, Wildcards, FollowedMail, FollowedPush, FollowedWildcards}
+use Rattle.chat_model.specs.declared.settings.SettingChange.TheVariants.{MailMentions, PushMentions, PushOnline, ChannelMail, ChannelPush, Wildcards, FollowedMail, FollowedPush, FollowedWildcards, Period}
 use Rattle.chat_model.specs.declared.policy.Specific.{Specific}
 use Rattle.chat_model.specs.declared.policy.SpecificChange.{SpecificChange}
 use Rattle.chat_model.specs.declared.policy.SpecificChange.TheVariants as specific
@@ -26,7 +26,7 @@ default_settings = record {
 abbrev pub push_switch : Settings → Bool
 push_switch s = s.push_mentions || s.push_online
 
--- what a change gives to each switch, if it gives it a value
+-- what a change gives to each switch and to the period, if it gives it a value
 abbrev pub given_mail_mentions : SettingChange → Option Bool
 given_mail_mentions (MailMentions on) = Some on
 given_mail_mentions _ = None
@@ -63,7 +63,11 @@ abbrev pub given_followed_wildcards : SettingChange → Option Bool
 given_followed_wildcards (FollowedWildcards on) = Some on
 given_followed_wildcards _ = None
 
--- the settings with a switch set
+abbrev pub given_period : SettingChange → Option ℕ
+given_period (Period seconds) = Some seconds
+given_period _ = None
+
+-- the settings with a switch or the period set
 abbrev pub changed_settings : SettingChange → Settings → Settings
 changed_settings (MailMentions on) s = record s { mail_mentions = on }
 changed_settings (PushMentions on) s = record s { push_mentions = on }
@@ -74,6 +78,7 @@ changed_settings (Wildcards on) s = record s { wildcards = on }
 changed_settings (FollowedMail on) s = record s { followed_mail = on }
 changed_settings (FollowedPush on) s = record s { followed_push = on }
 changed_settings (FollowedWildcards on) s = record s { followed_wildcards = on }
+changed_settings (Period seconds) s = record s { period = seconds }
 
 -- a user's settings for a channel at first: not muted, and else what the user's own settings say
 abbrev pub default_specific : Specific

@@ -4,7 +4,7 @@ ghost use Rattle.chat_model.specs.Settings.{changed_settings};
 
 use crate::Same;
 
-/// Nine switches, and the period of a user's mails in seconds (1 to 604,800).
+/// Nine switches, and the period of a user's mails in seconds (1 to 604,800, a week).
 #[derive(Clone, Copy, Debug, PartialEq, Eq)]
 pub struct Settings {
     pub mail_mentions: bool,
@@ -48,7 +48,7 @@ impl Default for Settings {
 }
 
 impl Settings {
-    /// The settings with a switch set.
+    /// The settings with a switch or the period set.
     pub fn changed(self, change: SettingChange) -> Settings
         ensures { result ≡ changed_settings change self }
     {
@@ -63,12 +63,13 @@ impl Settings {
             SettingChange::FollowedMail(on) => settings.followed_mail = on,
             SettingChange::FollowedPush(on) => settings.followed_push = on,
             SettingChange::FollowedWildcards(on) => settings.followed_wildcards = on,
+            SettingChange::Period(seconds) => settings.period = seconds,
         }
         settings
     }
 }
 
-/// A change of one of the switches.
+/// A change of one of the switches, or of the period.
 #[derive(Clone, Copy, Debug, PartialEq, Eq)]
 pub enum SettingChange {
     MailMentions(bool),
@@ -80,6 +81,8 @@ pub enum SettingChange {
     FollowedMail(bool),
     FollowedPush(bool),
     FollowedWildcards(bool),
+    /// In seconds. A request sets 1 to 604,800 of them and is refused outside.
+    Period(u64),
 }
 
 impl Same for SettingChange {

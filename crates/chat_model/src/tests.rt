@@ -285,10 +285,17 @@ fn mutes_and_direct_messages_are_copied(rt: HostRuntime) -> Result<(), Fail> {
 }
 
 #[test]
-fn a_change_sets_its_switch(rt: HostRuntime) {
+fn a_change_sets_its_switch_or_the_period(rt: HostRuntime) {
     let settings = Settings::default().changed(SettingChange::PushOnline(true));
     assert!(rt; settings.push_online);
     assert!(rt; !settings.channel_push);
+    assert_eq!(rt; settings.period, 120);
+    let settings = settings.changed(SettingChange::Period(300));
+    assert_eq!(rt; settings.period, 300);
+    assert!(rt; settings.push_online);
+    assert!(rt; !settings.is_same(&settings.changed(SettingChange::Period(30))));
+    assert!(rt; SettingChange::Period(30).is_same(&SettingChange::Period(30)));
+    assert!(rt; !SettingChange::Period(30).is_same(&SettingChange::Period(31)));
     let specific = Specific::default().changed(SpecificChange::Muted(true));
     assert!(rt; specific.muted);
     assert!(rt; specific.mail.is_none());

@@ -14,6 +14,7 @@ pub mod DealLemmas
 pub mod RunLemmas
 pub mod LawfulLemmas
 pub mod Stamps
+pub mod Periods
 pub mod Sums
 pub mod Apart
 pub mod Places

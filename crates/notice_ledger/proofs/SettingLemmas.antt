@@ -11,8 +11,8 @@ use Rattle.chat_model.specs.declared.policy.SpecificChange.{SpecificChange}
 use Rattle.chat_model.specs.declared.policy.SpecificChange.TheVariants as specifics
 use Rattle.chat_model.specs.declared.settings.Settings.{Settings}
 use Rattle.chat_model.specs.declared.settings.SettingChange.{SettingChange}
-use Rattle.chat_model.specs.declared.settings.SettingChange.TheVariants.{MailMentions, PushMentions, PushOnline, ChannelMail, ChannelPush, Wildcards, FollowedMail, FollowedPush, FollowedWildcards}
-use Rattle.chat_model.specs.Settings.{default_settings, changed_settings, given_mail_mentions, given_push_mentions, given_push_online, given_channel_mail, given_channel_push, given_wildcards, given_followed_mail, given_followed_push, given_followed_wildcards, default_specific, changed_specific, given_muted, given_specific_mail, given_specific_push, given_specific_wildcards}
+use Rattle.chat_model.specs.declared.settings.SettingChange.TheVariants.{MailMentions, PushMentions, PushOnline, ChannelMail, ChannelPush, Wildcards, FollowedMail, FollowedPush, FollowedWildcards, Period}
+use Rattle.chat_model.specs.Settings.{default_settings, changed_settings, given_mail_mentions, given_push_mentions, given_push_online, given_channel_mail, given_channel_push, given_wildcards, given_followed_mail, given_followed_push, given_followed_wildcards, given_period, default_specific, changed_specific, given_muted, given_specific_mail, given_specific_push, given_specific_wildcards}
 use Rattle.notice_ledger.specs.Past.Journal.{occurrences}
 use Rattle.notice_ledger.specs.Past.Values.{setting_change, settings, specific_change, specific, policy_change, policy, mute_change, has_muted}
 use Rattle.notice_ledger.proofs.Appended.{last_given-append}
@@ -31,7 +31,7 @@ given_settings c s = record {
   followed_mail = unwrap_or (option_and_then given_followed_mail c) s.followed_mail;
   followed_push = unwrap_or (option_and_then given_followed_push c) s.followed_push;
   followed_wildcards = unwrap_or (option_and_then given_followed_wildcards c) s.followed_wildcards;
-  period = s.period;
+  period = unwrap_or (option_and_then given_period c) s.period;
 }
 
 given-changed : (c : Option SettingChange) (s : Settings) → given_settings c s ≡ option_map_or (λ d. changed_settings d s) c s
@@ -45,6 +45,7 @@ given-changed (Some (Wildcards on)) s = refl
 given-changed (Some (FollowedMail on)) s = refl
 given-changed (Some (FollowedPush on)) s = refl
 given-changed (Some (FollowedWildcards on)) s = refl
+given-changed (Some (Period seconds)) s = refl
 
 -- an event changes a setting of a user, or none
 pub settings-append : (j : List Stamped) (s : Stamped) (u : UserId) → settings (j ++ s ∷ []) u ≡ option_map_or (λ c. changed_settings c (settings j u)) (setting_change u s.event) (settings j u)
@@ -61,18 +62,13 @@ settings-append j s u =
       followed_mail = last given_followed_mail default_settings.followed_mail i;
       followed_push = last given_followed_push default_settings.followed_push i;
       followed_wildcards = last given_followed_wildcards default_settings.followed_wildcards i;
-      period = default_settings.period;
+      period = last_given-append (λ o. option_and_then given_period (setting_change u o.event)) default_settings.period j s i;
     } in
     same ∙ given-changed (setting_change u s.event) (settings j u)
 
 pub settings-nil : (u : UserId) → settings [] u ≡ default_settings
 unfolding settings occurrences
 settings-nil u = refl
-
--- no event changes a period
-pub settings-period : (j : List Stamped) (u : UserId) → (settings j u).period ≡ 120
-unfolding settings
-settings-period j u = refl
 
 -- ---- settings for a channel
 

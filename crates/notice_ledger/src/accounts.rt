@@ -8,7 +8,7 @@ pub enum Account {
     NotOwed,
     /// Its deal was not absorbed yet.
     Flight,
-    /// Its deal was absorbed while the user was live.
+    /// Its deal was absorbed, and nothing has made it ready yet.
     Held,
     /// It waits for a turn.
     Ready,

@@ -1,5 +1,5 @@
 //! When mails are due, by looking through the whole list of events.
-ghost use Rattle.std.specs.Prelude.{◌≡◌, ◌+◌, ◌<◌, ◌^◌, ◌&&◌, map, filter, is_none, is_some, option_map, IfOk};
+ghost use Rattle.std.specs.Prelude.{◌≡◌, ◌+◌, ◌&&◌, map, filter, is_none, is_some, option_map, IfOk};
 ghost use Rattle.std.specs.Option.{option_map_or};
 ghost use Rattle.std.specs.List.{filter_map, reduce};
 ghost use Rattle.notice_ledger.specs.Past.Due.{batch_rows, due, earlier, first_due, sooner};
@@ -13,10 +13,11 @@ use crate::values::user_names;
 use chat_model::{OutOfMemory, Stamped, UserId, Way};
 use std::alloc::Global;
 
-/// A user with a due moment, in seconds since 1970-01-01T00:00:00Z.
+/// A user with a due moment, in seconds since 1970-01-01T00:00:00Z. A list may hold a request that sets any period,
+/// refused or not, so the moment has more than 64 bits.
 #[derive(Clone, Copy, Debug)]
 pub struct DueUser {
-    pub due: u64,
+    pub due: u128,
     pub user: UserId,
 }
 
@@ -92,18 +93,17 @@ fn first_ready(journal: &[Stamped], rows: &[Owed]) -> Option<Spot>
 }
 
 /// The stamp of the event, plus the period.
-fn first_moment(first: Option<Spot>, period: u64) -> Option<u64>
-    requires { period < 2 ^ 63 }
+fn first_moment(first: Option<Spot>, period: u64) -> Option<u128>
     ensures { result ≡ option_map (λ s. s.at + period) first }
 {
     match first {
-        Some(spot) => Some(spot.at.seconds() + period),
+        Some(spot) => Some(spot.at.seconds() as u128 + period as u128),
         None => None,
     }
 }
 
 /// When the user's mails are due, in seconds since 1970-01-01T00:00:00Z: the batch row that is ready first settles it.
-fn due(alloc: Global, journal: &[Stamped], user: UserId) -> Result<Option<u64>, OutOfMemory>
+fn due(alloc: Global, journal: &[Stamped], user: UserId) -> Result<Option<u128>, OutOfMemory>
     ensures { IfOk result (λ moment. moment ≡ due journal.now user) }
 {
     let rows = batch_rows(alloc, journal, user)?;

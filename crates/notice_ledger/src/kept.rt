@@ -16,7 +16,7 @@ fn is_next_turn(first: Option<DueUser>, user: UserId, at: Moment) -> bool
     ensures { result ≡ is_next_turn (option_map found_due first) user at }
 {
     match first {
-        Some(first) => first.user.0 == user.0 && first.due <= at.seconds(),
+        Some(first) => first.user.0 == user.0 && first.due <= at.seconds() as u128,
         None => false,
     }
 }

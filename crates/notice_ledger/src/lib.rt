@@ -30,5 +30,5 @@ pub use accounts::Account;
 pub use destination::Destination;
 pub use laws::{refusal_is_least, rows_are_listed, rows_ascend, rows_conserve, rules_ascend};
 pub use order::{in_order, is_in_order};
-pub use rules::{is_bad_name, is_blank, is_longer_than};
+pub use rules::{is_bad_name, is_bad_period, is_blank, is_longer_than};
 pub use slow::{account, audit};

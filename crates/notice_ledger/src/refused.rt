@@ -2,18 +2,17 @@
 ghost use Rattle.std.specs.Prelude.{◌≡◌, Bool};
 ghost use Rattle.chat_model.specs.declared.policy.Policy.{Policy};
 ghost use Rattle.chat_model.specs.declared.policy.SpecificChange.{SpecificChange};
-ghost use Rattle.chat_model.specs.declared.settings.SettingChange.{SettingChange};
 ghost use Rattle.std.specs.List.{list_all};
 ghost use Rattle.notice_ledger.specs.Limits.{longest_name, longest_text, longest_topic, most_items};
 ghost use Rattle.notice_ledger.specs.Past.Values.{is_user};
 ghost use Rattle.notice_ledger.specs.Past.Refusals.{first_broken, name_rules, refusal};
 
-use crate::rules::{is_bad_name, is_blank, is_longer_than};
+use crate::rules::{is_bad_name, is_bad_period, is_blank, is_longer_than};
 use crate::values::{
     is_channel, is_channel_taken, is_group, is_group_taken, is_subscribed, is_user,
     subscriber_count,
 };
-use chat_model::{ChannelId, GroupId, Refusal, Request, Stamped, UserId};
+use chat_model::{ChannelId, GroupId, Refusal, Request, SettingChange, Stamped, UserId};
 
 // In characters.
 const LONGEST_TEXT: usize = 10_000;
@@ -131,11 +130,13 @@ fn send_refusal(
 }
 
 #[tactic(auto, unfolding(crate::specs::Past::Refusals::refusal))]
-fn setting_refusal(past: &[Stamped], user: UserId) -> Option<Refusal>
-    ensures { (change : SettingChange) → result ≡ refusal past.now (Request.Set user change) }
+fn setting_refusal(past: &[Stamped], user: UserId, change: SettingChange) -> Option<Refusal>
+    ensures { result ≡ refusal past.now (Request.Set user change) }
 {
     if !is_user(past, user) {
         Some(Refusal::NoUser)
+    } else if is_bad_period(change) {
+        Some(Refusal::BadPeriod)
     } else {
         None
     }
@@ -215,7 +216,7 @@ pub fn refusal(past: &[Stamped], request: &Request) -> Option<Refusal>
         Request::Member { group, user, .. } => member_refusal(past, *group, *user),
         Request::AddChannel { name } => channel_refusal(past, name.as_str()),
         Request::Subscribe { user, channel, .. } => { subscription_refusal(past, *user, *channel) }
-        Request::Set { user, .. } => setting_refusal(past, *user),
+        Request::Set { user, change } => setting_refusal(past, *user, *change),
         Request::SetChannel { user, channel, .. } => specific_refusal(past, *user, *channel),
         Request::SetPolicy {
             user,

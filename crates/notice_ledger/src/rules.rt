@@ -1,7 +1,15 @@
-//! The rules that look at a text alone.
+//! The rules that look at a text alone, or at a change of settings.
 ghost use Rattle.std.specs.Prelude.{◌≡◌, chars};
 ghost use Rattle.std.specs.List.{list_any};
 ghost use Rattle.notice_ledger.specs.Texts.{has_outer_space, is_bad_name, is_blank, is_forbidden, is_longer_than};
+ghost use Rattle.notice_ledger.specs.Past.Refusals.{is_bad_period};
+
+use chat_model::SettingChange;
+
+// In seconds: a second and a week.
+const SHORTEST_PERIOD: u64 = 1;
+
+const LONGEST_PERIOD: u64 = 604_800;
 
 /// Whether the text has more than so many characters, which are Unicode scalar values and not bytes: the cause of
 /// `TextTooLong`, `TopicTooLong` and `NameTooLong`.
@@ -45,4 +53,14 @@ fn is_forbidden(c: char) -> bool
     ensures { result ≡ is_forbidden c }
 {
     c.is_control() || matches!(c, '*' | '|' | '@' | '\\' | '>' | '"' | '`')
+}
+
+/// Whether a period is set outside 1 to 604,800 seconds: the cause of `BadPeriod`.
+pub fn is_bad_period(change: SettingChange) -> bool
+    ensures { result ≡ is_bad_period change }
+{
+    match change {
+        SettingChange::Period(seconds) => seconds < SHORTEST_PERIOD || seconds > LONGEST_PERIOD,
+        _ => false,
+    }
 }

@@ -403,3 +403,37 @@ fn a_start_readies_what_is_undecided_once(rt: HostRuntime) -> Result<(), Fail> {
     assert_eq!(rt; audit(alloc, &journal)?, counts(2, 2));
     Ok(())
 }
+
+// Whether Ben's mail, which is ready at second 100, is handed over at the second, where the period is set at 150.
+fn is_mailed(rt: &impl Abort, alloc: Global, period: u64, seconds: u64) -> Result<bool, Fail> {
+    let mut journal = lunch(rt, alloc)?;
+    add(rt, &mut journal, 100, dealt(alloc, 0, Verdict::Idle)?)?;
+    add(rt, &mut journal, 150, set(SettingChange::Period(period)))?;
+    add(rt, &mut journal, seconds, Event::MailTurn(UserId(2)))?;
+    Ok(audit(alloc, &journal)?.handed == 1)
+}
+
+#[test]
+fn a_new_period_moves_the_due_moment(rt: HostRuntime) -> Result<(), Fail> {
+    let alloc = rt.alloc();
+    // A longer one, across the moment of the old one.
+    assert!(rt; !is_mailed(&rt, alloc, 300, 399)?);
+    assert!(rt; is_mailed(&rt, alloc, 300, 400)?);
+    // A shorter one, to a moment that is past.
+    assert!(rt; is_mailed(&rt, alloc, 30, 150)?);
+    // The bounds.
+    assert!(rt; is_mailed(&rt, alloc, 1, 150)?);
+    assert!(rt; !is_mailed(&rt, alloc, 604_800, 604_899)?);
+    assert!(rt; is_mailed(&rt, alloc, 604_800, 604_900)?);
+    Ok(())
+}
+
+#[test]
+fn a_period_outside_its_bounds_is_not_set(rt: HostRuntime) -> Result<(), Fail> {
+    let alloc = rt.alloc();
+    for period in [0, 604_801, u64::MAX] {
+        assert!(rt; !is_mailed(&rt, alloc, period, 219)?, "{period}");
+        assert!(rt; is_mailed(&rt, alloc, period, 220)?, "{period}");
+    }
+    Ok(())
+}

@@ -1,5 +1,5 @@
-use crate::{in_order, is_bad_name, is_blank, is_longer_than};
-use chat_model::{List, OutOfMemory, Request, Text, UserId};
+use crate::{in_order, is_bad_name, is_bad_period, is_blank, is_longer_than};
+use chat_model::{List, OutOfMemory, Request, SettingChange, Text, UserId};
 use std::alloc::Global;
 use std::iter::repeat_n;
 use std::test::Fail;
@@ -59,6 +59,17 @@ fn a_bad_name_is_told(rt: HostRuntime) {
     for name in ["Ada", "Ada Lovelace", "\u{e9}", "a<b", "o'c(d)"] {
         assert!(rt; !is_bad_name(name), "{name:?}");
     }
+}
+
+#[test]
+fn a_period_outside_its_bounds_is_told(rt: HostRuntime) {
+    for seconds in [0, 604_801, u64::MAX] {
+        assert!(rt; is_bad_period(SettingChange::Period(seconds)), "{seconds}");
+    }
+    for seconds in [1, 120, 604_800] {
+        assert!(rt; !is_bad_period(SettingChange::Period(seconds)), "{seconds}");
+    }
+    assert!(rt; !is_bad_period(SettingChange::PushOnline(true)));
 }
 
 #[test]

@@ -90,7 +90,7 @@ direct_line line place = do
   end ← line_end line text.1
   Ok (Asked (Direct (record { 0 = sender.0 }) (users_of to.0) text.0))
 
--- `set ID KEY BOOL`: user, switch, value
+-- `set ID KEY BOOL`, `set ID period NUM`: user, setting, value
 unfoldable pub set_line : List ℕ → ℕ → Result Line ℕ
 set_line line place = do
   user ← word_field number_of line place

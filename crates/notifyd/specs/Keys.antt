@@ -7,14 +7,17 @@ use Rattle.chat_model.specs.declared.policy.SpecificChange.{SpecificChange}
 use Rattle.chat_model.specs.declared.policy.SpecificChange.TheVariants as specific
 use Rattle.chat_model.specs.declared.policy.Policy.{Policy}
 use Rattle.chat_model.specs.declared.policy.Policy.TheVariants as policy
+use Rattle.chat_model.specs.Number.{number_of}
+use Rattle.notifyd.specs.declared.keys.SwitchKey.{SwitchKey}
+use Rattle.notifyd.specs.declared.keys.SwitchKey.TheVariants as key
 use Rattle.notifyd.specs.declared.keys.SettingKey.{SettingKey}
-use Rattle.notifyd.specs.declared.keys.SettingKey.TheVariants as key
+use Rattle.notifyd.specs.declared.keys.SettingKey.TheVariants as setting
 use Rattle.notifyd.specs.declared.keys.SpecificKey.{SpecificKey}
 use Rattle.notifyd.specs.declared.keys.SpecificKey.TheVariants as channel
 use Rattle.notifyd.specs.Field.{switch_of}
 
 -- the switch for channels or followed topics that a word names
-unfoldable pub topic_key_of : List ℕ → Option SettingKey
+unfoldable pub topic_key_of : List ℕ → Option SwitchKey
 topic_key_of word =
     if bytes_eq word (codes "channel_mail") then Some key.ChannelMail
     else (if bytes_eq word (codes "channel_push") then Some key.ChannelPush
@@ -24,8 +27,8 @@ topic_key_of word =
     else None))))
 
 -- the switch of a user that a word names
-unfoldable pub setting_key_of : List ℕ → Option SettingKey
-setting_key_of word =
+unfoldable pub switch_key_of : List ℕ → Option SwitchKey
+switch_key_of word =
     if bytes_eq word (codes "mail_mentions") then Some key.MailMentions
     else (if bytes_eq word (codes "push_mentions") then Some key.PushMentions
     else (if bytes_eq word (codes "push_online") then Some key.PushOnline
@@ -33,7 +36,7 @@ setting_key_of word =
     else topic_key_of word)))
 
 -- the change that sets a switch
-abbrev pub set_to : SettingKey → Bool → SettingChange
+abbrev pub set_to : SwitchKey → Bool → SettingChange
 set_to key.MailMentions on = change.MailMentions on
 set_to key.PushMentions on = change.PushMentions on
 set_to key.PushOnline on = change.PushOnline on
@@ -44,9 +47,16 @@ set_to key.FollowedMail on = change.FollowedMail on
 set_to key.FollowedPush on = change.FollowedPush on
 set_to key.FollowedWildcards on = change.FollowedWildcards on
 
--- the change of a switch to what a word says
+-- the setting of a user that a word names: the period, or a switch
+unfoldable pub setting_key_of : List ℕ → Option SettingKey
+setting_key_of word =
+    if bytes_eq word (codes "period") then Some setting.Period
+    else option_map (λ switch. setting.Switch switch) (switch_key_of word)
+
+-- the change of a setting to what a word says: a switch is on or off, and a period any number
 unfoldable pub setting_of : SettingKey → List ℕ → Option SettingChange
-setting_of switch word = option_map (λ on. set_to switch on) (switch_of word)
+setting_of (setting.Switch switch) word = option_map (λ on. set_to switch on) (switch_of word)
+setting_of setting.Period word = option_map (λ seconds. change.Period seconds) (number_of word)
 
 -- the setting for a channel that a word names
 unfoldable pub specific_key_of : List ℕ → Option SpecificKey

@@ -171,7 +171,7 @@ impl<'a> Fields<'a> {
         }
     }
 
-    /// The name of a switch of a user.
+    /// The name of a setting of a user.
     #[tactic(auto, unfolding(crate::specs::Field::word_field))]
     pub fn setting_key(&mut self) -> Result<SettingKey, LineFault>
         ensures read { IsFieldRead (word_field setting_key_of self.old.line self.old.place) result self.new.place }
@@ -184,7 +184,7 @@ impl<'a> Fields<'a> {
         }
     }
 
-    /// What the switch is set to.
+    /// What the setting is set to.
     #[tactic(auto, unfolding(crate::specs::Field::word_field))]
     pub fn setting(&mut self, key: SettingKey) -> Result<SettingChange, LineFault>
         ensures read { IsFieldRead (word_field (setting_of key) self.old.line self.old.place) result self.new.place }

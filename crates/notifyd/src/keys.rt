@@ -1,13 +1,13 @@
 //! The words of settings: keys, the values that they take, and policies.
 ghost use Rattle.std.specs.Prelude.{◌≡◌};
-ghost use Rattle.notifyd.specs.Keys.{setting_key_of, topic_key_of, set_to, setting_of, specific_key_of, choice_of, specific_of, policy_of};
+ghost use Rattle.notifyd.specs.Keys.{switch_key_of, topic_key_of, set_to, setting_key_of, setting_of, specific_key_of, choice_of, specific_of, policy_of};
 
 use crate::field::switch_of;
-use chat_model::{Policy, SettingChange, SpecificChange};
+use chat_model::{Policy, SettingChange, SpecificChange, number_of};
 
 /// A switch of a user.
 #[derive(Clone, Copy, Debug, PartialEq, Eq)]
-pub enum SettingKey {
+pub enum SwitchKey {
     MailMentions,
     PushMentions,
     PushOnline,
@@ -19,23 +19,30 @@ pub enum SettingKey {
     FollowedWildcards,
 }
 
-impl SettingKey {
+impl SwitchKey {
     /// The change that sets this switch.
     pub fn set_to(self, on: bool) -> SettingChange
         ensures { result ≡ set_to self on }
     {
         match self {
-            SettingKey::MailMentions => SettingChange::MailMentions(on),
-            SettingKey::PushMentions => SettingChange::PushMentions(on),
-            SettingKey::PushOnline => SettingChange::PushOnline(on),
-            SettingKey::ChannelMail => SettingChange::ChannelMail(on),
-            SettingKey::ChannelPush => SettingChange::ChannelPush(on),
-            SettingKey::Wildcards => SettingChange::Wildcards(on),
-            SettingKey::FollowedMail => SettingChange::FollowedMail(on),
-            SettingKey::FollowedPush => SettingChange::FollowedPush(on),
-            SettingKey::FollowedWildcards => SettingChange::FollowedWildcards(on),
+            SwitchKey::MailMentions => SettingChange::MailMentions(on),
+            SwitchKey::PushMentions => SettingChange::PushMentions(on),
+            SwitchKey::PushOnline => SettingChange::PushOnline(on),
+            SwitchKey::ChannelMail => SettingChange::ChannelMail(on),
+            SwitchKey::ChannelPush => SettingChange::ChannelPush(on),
+            SwitchKey::Wildcards => SettingChange::Wildcards(on),
+            SwitchKey::FollowedMail => SettingChange::FollowedMail(on),
+            SwitchKey::FollowedPush => SettingChange::FollowedPush(on),
+            SwitchKey::FollowedWildcards => SettingChange::FollowedWildcards(on),
         }
     }
+}
+
+/// A setting of a user: one of the switches, or the period.
+#[derive(Clone, Copy, Debug, PartialEq, Eq)]
+pub enum SettingKey {
+    Switch(SwitchKey),
+    Period,
 }
 
 /// A setting of a user for a channel.
@@ -47,50 +54,64 @@ pub enum SpecificKey {
     Wildcards,
 }
 
-/// The switch of a user that a word names. The words are looked for in two groups.
-#[tactic(auto, unfolding(crate::specs::Keys::setting_key_of))]
-pub fn setting_key_of(word: &[u8]) -> Option<SettingKey>
-    ensures { result ≡ setting_key_of word.now }
+// The switch of a user that a word names. The words are looked for in two groups.
+#[tactic(auto, unfolding(crate::specs::Keys::switch_key_of))]
+fn switch_key_of(word: &[u8]) -> Option<SwitchKey>
+    ensures { result ≡ switch_key_of word.now }
 {
     if word == b"mail_mentions".as_slice() {
-        Some(SettingKey::MailMentions)
+        Some(SwitchKey::MailMentions)
     } else if word == b"push_mentions".as_slice() {
-        Some(SettingKey::PushMentions)
+        Some(SwitchKey::PushMentions)
     } else if word == b"push_online".as_slice() {
-        Some(SettingKey::PushOnline)
+        Some(SwitchKey::PushOnline)
     } else if word == b"wildcards".as_slice() {
-        Some(SettingKey::Wildcards)
+        Some(SwitchKey::Wildcards)
     } else {
         topic_key_of(word)
     }
 }
 
 #[tactic(auto, unfolding(crate::specs::Keys::topic_key_of))]
-fn topic_key_of(word: &[u8]) -> Option<SettingKey>
+fn topic_key_of(word: &[u8]) -> Option<SwitchKey>
     ensures { result ≡ topic_key_of word.now }
 {
     if word == b"channel_mail".as_slice() {
-        Some(SettingKey::ChannelMail)
+        Some(SwitchKey::ChannelMail)
     } else if word == b"channel_push".as_slice() {
-        Some(SettingKey::ChannelPush)
+        Some(SwitchKey::ChannelPush)
     } else if word == b"followed_mail".as_slice() {
-        Some(SettingKey::FollowedMail)
+        Some(SwitchKey::FollowedMail)
     } else if word == b"followed_push".as_slice() {
-        Some(SettingKey::FollowedPush)
+        Some(SwitchKey::FollowedPush)
     } else if word == b"followed_wildcards".as_slice() {
-        Some(SettingKey::FollowedWildcards)
+        Some(SwitchKey::FollowedWildcards)
     } else {
         None
     }
 }
 
-/// The change of a switch to what a word says: `on` or `off`.
+/// The setting of a user that a word names.
+#[tactic(auto, unfolding(crate::specs::Keys::setting_key_of))]
+pub fn setting_key_of(word: &[u8]) -> Option<SettingKey>
+    ensures { result ≡ setting_key_of word.now }
+{
+    if word == b"period".as_slice() {
+        return Some(SettingKey::Period);
+    }
+    Some(SettingKey::Switch(switch_key_of(word)?))
+}
+
+/// The change of a setting to what a word says: a switch is `on` or `off`, and a period any number. For a period that no
+/// user may have the request is refused.
 #[tactic(auto, unfolding(crate::specs::Keys::setting_of))]
 pub fn setting_of(key: SettingKey, word: &[u8]) -> Option<SettingChange>
     ensures { result ≡ setting_of key word.now }
 {
-    let on = switch_of(word)?;
-    Some(key.set_to(on))
+    match key {
+        SettingKey::Switch(switch) => Some(switch.set_to(switch_of(word)?)),
+        SettingKey::Period => Some(SettingChange::Period(number_of(word)?)),
+    }
 }
 
 /// The setting for a channel that a word names.

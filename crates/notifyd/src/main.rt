@@ -50,6 +50,8 @@ mod kept_tests;
 #[cfg(test)]
 mod listed_tests;
 #[cfg(test)]
+mod period_tests;
+#[cfg(test)]
 mod play_tests;
 #[cfg(test)]
 mod preference_tests;

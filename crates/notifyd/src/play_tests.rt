@@ -4,6 +4,7 @@ use crate::ending::Met;
 use crate::hook_tests::HOOK;
 use crate::hub_tests::HUB;
 use crate::kept_tests::RUNS;
+use crate::period_tests::PERIODS;
 use crate::play::{Next, Play};
 use crate::preference_tests::{PREFERENCES, opened};
 use crate::request_tests::{NOTICES, REQUESTS};
@@ -201,6 +202,9 @@ fn the_slow_computation_agrees_behind_each_line(rt: HostRuntime) -> Result<(), F
         follow_opened(&rt, rows)?;
     }
     for rows in PREFERENCES {
+        follow_counted(&rt, rows)?;
+    }
+    for rows in PERIODS {
         follow_counted(&rt, rows)?;
     }
     Ok(())

@@ -48,7 +48,8 @@ pub fn opened(alloc: Global, rows: &str) -> Result<String, AllocError> {
     Ok(worked)
 }
 
-fn expect_counted<R: Abort + AllocGlobal>(rt: &R, rows: &str) -> Result<(), Fail> {
+/// Plays the opening and these rows, as `opened` reads them, to status 0.
+pub fn expect_counted<R: Abort + AllocGlobal>(rt: &R, rows: &str) -> Result<(), Fail> {
     let worked = opened(rt.alloc(), rows)?;
     expect_worked(rt, worked.as_str(), 4_096, &NEVER, 0)
 }

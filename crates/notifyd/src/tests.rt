@@ -173,7 +173,7 @@ fn last_lines_have_their_texts(rt: HostRuntime) -> Result<(), Fail> {
 
 #[test]
 fn bad_lines_have_their_columns(rt: HostRuntime) -> Result<(), Fail> {
-    let rows: [(&[u8], Column); 34] = [
+    let rows: [(&[u8], Column); 40] = [
         (b"at", 3),
         (b"hello", 1),
         (b"user \"Ada", 6),
@@ -199,8 +199,14 @@ fn bad_lines_have_their_columns(rt: HostRuntime) -> Result<(), Fail> {
         (b"deal 1\n", 6),
         (b"absorb all\n", 8),
         (b"bot Cy\n", 5),
-        (b"set 2 period 5\n", 7),
+        (b"set 2 periods 5\n", 7),
+        (b"set 2 period\n", 13),
+        (b"set 2 period on\n", 14),
+        (b"set 2 period -5\n", 14),
+        (b"set 2 period 00000000000000000300\n", 14),
+        (b"set 2 period 300 s\n", 18),
         (b"set 2 wildcards default\n", 17),
+        (b"set 2 wildcards 1\n", 17),
         (b"chan 2 1 muted default\n", 16),
         (b"chan 2 1 wildcard on\n", 10),
         (b"policy 2 1 \"x\" follow\n", 16),

@@ -7,6 +7,8 @@ mod answer;
 mod difference;
 mod load;
 mod office;
+#[cfg(test)]
+mod period_tests;
 mod replay;
 #[cfg(test)]
 mod test_team;

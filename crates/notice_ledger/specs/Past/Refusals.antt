@@ -1,14 +1,16 @@
 -- Which rule of a request is broken.
-use Rattle.std.specs.Prelude.{ℕ, Bool, ◌&&◌, not, nat_lt, List, [], ◌∷◌, length, Option, Some, None, if◌then◌else◌}
+use Rattle.std.specs.Prelude.{ℕ, Bool, false, ◌&&◌, ◌||◌, not, nat_lt, List, [], ◌∷◌, length, Option, Some, None, if◌then◌else◌}
 use Rattle.std.specs.List.{list_all, list_any}
 use Rattle.std.specs.Str.{str_eq_ignore_ascii_case}
 use Rattle.chat_model.specs.declared.event.Stamped.{Stamped}
 use Rattle.chat_model.specs.declared.request.Request.{Request}
 use Rattle.chat_model.specs.declared.request.Request.TheVariants.{AddUser, AddGroup, Member, AddChannel, Subscribe, Set, SetChannel, SetPolicy, Mute, Send, Direct}
 use Rattle.chat_model.specs.declared.request.Refusal.{Refusal}
-use Rattle.chat_model.specs.declared.request.Refusal.TheVariants.{NoUser, NoChannel, NoGroup, Exists, NotSubscribed, EmptyText, TextTooLong, TopicTooLong, TooMany, NameTooLong, BadName}
+use Rattle.chat_model.specs.declared.request.Refusal.TheVariants.{NoUser, NoChannel, NoGroup, Exists, NotSubscribed, EmptyText, TextTooLong, TopicTooLong, BadPeriod, TooMany, NameTooLong, BadName}
+use Rattle.chat_model.specs.declared.settings.SettingChange.{SettingChange}
+use Rattle.chat_model.specs.declared.settings.SettingChange.TheVariants.{Period}
 use Rattle.notice_ledger.specs.Texts.{is_longer_than, is_blank, is_bad_name}
-use Rattle.notice_ledger.specs.Limits.{longest_text, longest_topic, longest_name, most_items}
+use Rattle.notice_ledger.specs.Limits.{longest_text, longest_topic, longest_name, most_items, shortest_period, longest_period}
 use Rattle.notice_ledger.specs.Past.Values.{is_user, is_group, groups, is_channel, channels, subscribed, subscriber_count}
 
 -- one of the names is this one without ASCII case
@@ -32,6 +34,11 @@ first_broken (r ∷ rules) = if r.broken then Some r.refusal else first_broken r
 abbrev pub name_rules : List ℕ → List Rule
 name_rules name = rule (is_longer_than longest_name name) NameTooLong ∷ rule (is_bad_name name) BadName ∷ []
 
+-- a change of settings sets a period outside its bounds
+abbrev pub is_bad_period : SettingChange → Bool
+is_bad_period (Period seconds) = nat_lt seconds shortest_period || nat_lt longest_period seconds
+is_bad_period _ = false
+
 -- the rules that concern a request after a journal, in the order of the refusals' numbers
 abbrev pub rules_of : List Stamped → Request → List Rule
 rules_of j (AddUser name bot) = name_rules name
@@ -51,7 +58,10 @@ rules_of j (Subscribe user channel on) =
     rule (not (is_user j user)) NoUser
     ∷ rule (not (is_channel j channel)) NoChannel
     ∷ []
-rules_of j (Set user change) = rule (not (is_user j user)) NoUser ∷ []
+rules_of j (Set user change) =
+    rule (not (is_user j user)) NoUser
+    ∷ rule (is_bad_period change) BadPeriod
+    ∷ []
 rules_of j (SetChannel user channel change) =
     rule (not (is_user j user)) NoUser
     ∷ rule (not (is_channel j channel)) NoChannel

@@ -19,7 +19,7 @@ use Rattle.chat_model.specs.declared.settings.Settings.{Settings}
 use Rattle.chat_model.specs.declared.settings.SettingChange.{SettingChange}
 use Rattle.chat_model.specs.declared.mentions.UserName.{UserName}
 use Rattle.chat_model.specs.declared.mentions.GroupName.{GroupName}
-use Rattle.chat_model.specs.Settings.{default_settings, given_mail_mentions, given_push_mentions, given_push_online, given_channel_mail, given_channel_push, given_wildcards, given_followed_mail, given_followed_push, given_followed_wildcards, default_specific, given_muted, given_specific_mail, given_specific_push, given_specific_wildcards}
+use Rattle.chat_model.specs.Settings.{default_settings, given_mail_mentions, given_push_mentions, given_push_online, given_channel_mail, given_channel_push, given_wildcards, given_followed_mail, given_followed_push, given_followed_wildcards, given_period, default_specific, given_muted, given_specific_mail, given_specific_push, given_specific_wildcards}
 use Rattle.notice_ledger.specs.declared.destination.Destination.{Destination}
 use Rattle.notice_ledger.specs.declared.destination.Destination.TheVariants as destination
 use Rattle.notice_ledger.specs.Past.Journal.{Occurrence, occurrences, last_given}
@@ -194,7 +194,7 @@ setting_change u _ = None
 abbrev pub setting : {A : Type 0} → (SettingChange → Option A) → A → List Stamped → UserId → A
 setting given start j u = last_given (λ o. option_and_then given (setting_change u o.event)) start j
 
--- a user's settings; no event changes the period yet
+-- a user's settings
 unfoldable pub settings : List Stamped → UserId → Settings
 settings j u = record {
   mail_mentions = setting given_mail_mentions default_settings.mail_mentions j u;
@@ -206,7 +206,7 @@ settings j u = record {
   followed_mail = setting given_followed_mail default_settings.followed_mail j u;
   followed_push = setting given_followed_push default_settings.followed_push j u;
   followed_wildcards = setting given_followed_wildcards default_settings.followed_wildcards j u;
-  period = default_settings.period;
+  period = setting given_period default_settings.period j u;
 }
 
 -- what an event changes of a user's settings for a channel

@@ -1,9 +1,8 @@
-use Rattle.std.proofs.Common.{◌+◌, ap, ◌∙◌, arith}
+use Rattle.std.proofs.Common.{◌+◌, ap, ◌∙◌}
 use Rattle.std.specs.Prelude.{option_map}
 use Rattle.chat_model.specs.declared.settings.Settings.{Settings}
 use Rattle.notice_ledger.specs.declared.readiness.Spot.{Spot}
 use Rattle.notice_ledger.specs.Past.Values.{settings}
-use Rattle.notice_ledger.proofs.SettingLemmas.{settings-period}
 use Rattle.notice_ledger.proofs.TurnLemmas.{due-first}
 use Rattle.notice_ledger.proofs.due.due.Goals as goal
 
@@ -14,7 +13,3 @@ returns c =
     ∙ (ap (λ (s : Settings). option_map (λ (f : Spot). f.at + s.period) c.first_ready-first.result) c.settings.ensures
     ∙ (ap (option_map (λ (f : Spot). f.at + (settings j u).period)) c.first_ready-first.ensures
     ∙ due-first j u c.deref.result.now (c.deref.ensures.value ∙ c.in_ok-rows.ensures)))
-
-pub first_moment-requires : goal.first_moment-requires
-first_moment-requires c =
-    let period = ap (λ (s : Settings). s.period) c.settings.ensures ∙ settings-period c.args.journal.now c.args.user in omega (arith, period)

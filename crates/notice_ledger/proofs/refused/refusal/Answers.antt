@@ -9,9 +9,6 @@ returns-in-Member c = c.member_refusal.ensures c.in-Member.on ∙ ap (refusal c.
 pub returns-in-Subscribe : goal.returns-in-Subscribe
 returns-in-Subscribe c = c.subscription_refusal.ensures c.in-Subscribe.on ∙ ap (refusal c.args.past.now) (sym c.in-Subscribe.is)
 
-pub returns-in-Set : goal.returns-in-Set
-returns-in-Set c = c.setting_refusal.ensures c.in-Set.change ∙ ap (refusal c.args.past.now) (sym c.in-Set.is)
-
 pub returns-in-SetChannel : goal.returns-in-SetChannel
 returns-in-SetChannel c = c.specific_refusal.ensures c.in-SetChannel.change ∙ ap (refusal c.args.past.now) (sym c.in-SetChannel.is)
 

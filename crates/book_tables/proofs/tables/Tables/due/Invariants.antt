@@ -1,6 +1,7 @@
 use Rattle.std.proofs.Common.{◌≡◌, take}
 use Rattle.std.specs.List.{reduce, filter_map}
-use Rattle.book_tables.specs.Soonest.{ready_mail, lesser}
+use Rattle.notice_ledger.proofs.Stamps.{lesser}
+use Rattle.book_tables.proofs.Kept.{ready_mail}
 use Rattle.book_tables.proofs.tables.Tables.due.Given as goal
 
 abbrev pub invariant-loop-notice : goal.invariant-loop-notice

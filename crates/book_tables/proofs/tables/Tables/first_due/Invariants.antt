@@ -1,8 +1,10 @@
-use Rattle.std.proofs.Common.{◌≡◌, take}
+use Rattle.std.proofs.Common.{◌≡◌, List, take}
 use Rattle.std.specs.Prelude.{option_map}
-use Rattle.book_tables.specs.Tables.{found_due}
-use Rattle.book_tables.proofs.Soonest.{soonest}
+use Rattle.chat_model.specs.declared.event.Stamped.{Stamped}
+use Rattle.notice_ledger.specs.Lawful.{lawful}
+use Rattle.book_tables.specs.Tables.{StandsFor, found_due}
+use Rattle.book_tables.proofs.Soonest.{periods, soonest}
 use Rattle.book_tables.proofs.tables.Tables.first_due.Given as goal
 
 abbrev pub invariant-loop-notice : goal.invariant-loop-notice
-invariant-loop-notice l = option_map found_due l.first ≡ soonest (take l.notice-index l.notice-items)
+invariant-loop-notice l = (j : List Stamped) → StandsFor l.self j → option_map found_due l.first ≡ soonest (periods (lawful j)) (take l.notice-index l.notice-items)
