@@ -1,7 +1,7 @@
 -- Tables that stand for a journal stand for it with the next event, once its effect is made: the effect makes of each table
 -- what the event makes of what the table holds.
 use Rattle.std.proofs.Common.{add-zero, ◌≡◌, ℕ, zero, suc, ◌+◌, ◌<◌, ◌≤◌, Bool, true, false, ◌&&◌, ◌==◌, cond, not, List, [], ◌∷◌, ◌++◌, length, map, refl, sym, ap, ◌∙◌, subst, arith, ⊎_elim, length-append}
-use Rattle.std.specs.Prelude.{count_by, nat_le, ◌-◌, ◌^◌, min, Option, Some, None, option_map, option_to_list, is_some, is_none, nat_lt, slice_get, unwrap_or, filter, if◌then◌else◌}
+use Rattle.std.specs.Prelude.{sum_by, IsPermutation, nat_le, ◌-◌, ◌^◌, min, Option, Some, None, option_map, option_to_list, is_some, is_none, nat_lt, slice_get, unwrap_or, filter, if◌then◌else◌}
 use Rattle.std.specs.Option.{option_map_or}
 use Rattle.std.specs.List.{AllByRecursion, list_all}
 use Rattle.std.proofs.lemmas.List.{length-map, map-append, append-nil}
@@ -14,8 +14,6 @@ use Rattle.chat_model.specs.declared.request.Request.TheVariants.{AddUser, AddGr
 use Rattle.chat_model.specs.declared.request.Request.{Request}
 use Rattle.chat_model.specs.declared.request.Refusal.{Refusal}
 use Rattle.chat_model.specs.declared.request.Refusal.TheVariants.{NoUser, NoChannel, NoGroup, Exists, TopicTooLong, BadPeriod, TooMany}
-use Rattle.chat_model.specs.declared.row.Cause.TheVariants.{SwitchedOff}
-use Rattle.notice_ledger.specs.declared.accounts.Account.TheVariants.{Cancelled, LiveQueue}
 use Rattle.chat_model.specs.declared.deal.Outcome.{Outcome}
 use Rattle.chat_model.specs.declared.deal.Outcome.TheVariants.{Dealt, Cleared, Missed}
 use Rattle.chat_model.specs.declared.deal.QueueId.{QueueId}
@@ -24,6 +22,8 @@ use Rattle.chat_model.specs.declared.ids.DealNo.{DealNo}
 use Rattle.chat_model.specs.Outcomes.{is_dealt}
 use Rattle.std.proofs.Math.Bool.{and-false}
 use Rattle.std.specs.List.{filter_map}
+use Rattle.std.specs.FinMap as finite
+use Rattle.std.specs.Ordering.{nat_cmp}
 use Rattle.chat_model.specs.declared.ids.UserId.{UserId}
 use Rattle.chat_model.specs.declared.ids.ChannelId.{ChannelId}
 use Rattle.chat_model.specs.declared.ids.GroupId.{GroupId}
@@ -31,47 +31,52 @@ use Rattle.chat_model.specs.declared.deal.Deal.{Deal}
 use Rattle.chat_model.specs.declared.entry.Entry.{Entry}
 use Rattle.chat_model.specs.declared.mentions.UserName.{UserName}
 use Rattle.chat_model.specs.declared.mentions.GroupName.{GroupName}
-use Rattle.chat_model.specs.declared.trigger.Way.TheVariants.{Mail}
 use Rattle.notice_ledger.specs.Past.Journal.{occurrence, absorbs}
 use Rattle.notice_ledger.specs.declared.destination.Destination.{Destination}
 use Rattle.notice_ledger.specs.declared.destination.Destination.TheVariants as destination
-use Rattle.notice_ledger.specs.Past.Values.{numbered, Person, person_of, setting_change, specific_change, policy_change, mute_change, people, named_from, user_names, is_one_of, group_of, groups, named_groups_from, group_names, is_group, membership_change, is_member, channel_of, channels, is_user, is_channel, SentMessage, message_of, messages, subscription_change, subscribed}
-use Rattle.notice_ledger.specs.Past.Owed.{readies, clears, waiting, owed_by, is_mail_turn_of, switch_on, account_of}
+use Rattle.chat_model.specs.declared.settings.Settings.{Settings}
+use Rattle.chat_model.specs.Settings.{changed_settings}
+use Rattle.notice_ledger.proofs.SettingLemmas.{settings-append}
+use Rattle.notice_ledger.specs.Past.Values.{settings, numbered, Person, person_of, setting_change, specific_change, policy_change, mute_change, people, named_from, user_names, is_one_of, group_of, groups, named_groups_from, group_names, is_group, membership_change, is_member, channel_of, channels, is_user, is_channel, SentMessage, message_of, messages, subscription_change, subscribed}
+use Rattle.notice_ledger.specs.Past.Owed.{readies, clears, waiting, owed_by, is_mail_turn_of}
 use Rattle.notice_ledger.specs.Past.Deals.{deal_of, deals}
 use Rattle.notice_ledger.specs.Past.Runs.{is_restart, start_count}
 use Rattle.notice_ledger.specs.Past.Due.{batch_rows}
-use Rattle.notice_ledger.specs.Past.Outbox.{outbox, entries_by, mailed, mail_entry, mail_entries, by_message}
-use Rattle.notice_ledger.specs.Past.Audit.{in_64_bits, owed_with, same_account}
-use Rattle.notice_ledger.proofs.Audited.{switched_off, switched_off-append, cleared_live, cleared_live-append, is_turned}
-use Rattle.notice_ledger.specs.Past.Refusals.{Rule, rule, first_broken, is_bad_period, name_rules, rules_of, refusal, is_taken}
+use Rattle.notice_ledger.specs.Past.Outbox.{outbox, entries_by, mail_items, mail_entries}
+use Rattle.notice_ledger.specs.Past.Audit.{in_64_bits}
+use Rattle.notice_ledger.proofs.Audited.{handed_over, handed_over-append, handed_over-mailed, item_count, switched_off, switched_off-append, switched_off-mailed, cleared_live, cleared_live-append, is_turned}
+use Rattle.notice_ledger.specs.Past.Refusals.{Rule, rule, first_broken, name_rules, rules_of, refusal, is_taken, is_bad_period}
 use Rattle.notice_ledger.specs.Limits.{longest_topic, most_items}
 use Rattle.notice_ledger.specs.Texts.{is_longer_than}
 use Rattle.notice_ledger.specs.InOrder.{is_ascending, is_in_order}
 use Rattle.notice_ledger.specs.Past.Lawful.{may_stand, is_lawful_after}
 use Rattle.notice_ledger.specs.Past.Journal.{last_stamp}
 use Rattle.notice_ledger.proofs.Lists.{filter_none}
-use Rattle.notice_ledger.proofs.Appended.{notices-nil, people-nil, people-append, groups-nil, groups-append, is_member-nil, is_member-append, channels-nil, channels-append, messages-nil, messages-append, subscribed-nil, subscribed-append, outbox-nil, outbox-append, last_stamp-append}
-use Rattle.notice_ledger.proofs.Waiting.{waiting-nil, waiting-pending}
-use Rattle.notice_ledger.proofs.Batches.{is_mail_of, is_ready, is_ready_mail_of, filter_same, batch_rows-waiting, by_message-mailed}
-use Rattle.notice_ledger.proofs.DealLemmas.{deals-nil, deals-append, start_count-nil, start_count-append}
+use Rattle.notice_ledger.proofs.Appended.{people-append, groups-append, is_member-append, channels-append, messages-append, subscribed-append, outbox-append, last_stamp-append}
+use Rattle.notice_ledger.proofs.Waiting.{waiting-pending}
+use Rattle.notice_ledger.proofs.Batches.{is_ready, dropped-switched}
+use Rattle.notice_ledger.proofs.DealLemmas.{deals-append, start_count-append}
 use Rattle.book_tables.specs.declared.tables.Message.{Message}
 use Rattle.book_tables.specs.declared.tables.Waiting.{Waiting}
 use Rattle.book_tables.specs.declared.tables.Tables.{Tables}
 use Rattle.book_tables.specs.declared.prepared.Effect.{Effect}
 use Rattle.book_tables.specs.declared.prepared.Effect.TheVariants as effect
-use Rattle.book_tables.specs.UserSets.{users_in, has_in, users_after, changed_at, changed_numbered, IsSet}
+use Rattle.book_tables.specs.UserSets.{users_in, users_after, changed_numbered, IsSet}
 use Rattle.book_tables.specs.declared.preferences.Preference.{Preference}
 use Rattle.book_tables.specs.declared.preferences.Preference.TheVariants as preference
 use Rattle.book_tables.specs.Preferences.{Preferred, default_preferred, preferred, preferred_in, preferred_by, preferred_after}
-use Rattle.book_tables.specs.Tables.{Holds, message_kept, notice_kept, in_flight, request_to, switched_at}
-use Rattle.book_tables.specs.Notices.{is_ready_mail_to, of_deal, dealt_to, IsInOrder}
+use Rattle.mail_batches.specs.Batches.{Waiting as Batches, Batch, due_of, rows_of}
+use Rattle.book_tables.specs.Batched.{period_in, BatchesAfter}
+use Rattle.book_tables.specs.Tables.{Holds, HoldBatches, message_kept, in_flight, request_to, switched_at}
+use Rattle.book_tables.specs.Notices.{is_ready_mail_to, of_deal, dealt_to}
 use Rattle.book_tables.specs.Prepared.{IsEffectOf, IsGroup, IsMessage, IsMailed, IsDealt, IsSendOf}
-use Rattle.book_tables.specs.Applied.{starts_after, names_after, bots_after, preferences_after, groups_after, members_after, channels_after, subscribers_after, messages_after, is_cleared, waiting_after, live_after, deals_after, outbox_after, off_after, IsApplied, HoldTheSame}
-use Rattle.book_tables.proofs.Cancelled.{turn_of_mail, none_cleared_now, cleared_so}
-use Rattle.book_tables.proofs.Ordered.{waiting-ordered}
+use Rattle.book_tables.specs.Applied.{starts_after, names_after, bots_after, preferences_after, groups_after, members_after, channels_after, subscribers_after, messages_after, is_cleared, waiting_after, live_after, deals_after, outbox_after, handed_after, off_after, IsApplied, HoldTheSame}
+use Rattle.book_tables.proofs.Numbered.{changed-long}
+use Rattle.book_tables.proofs.BatchesAfter.{BatchesAgree, batches_left, batches_readied, batches_changed, batches_settled}
+use Rattle.book_tables.proofs.Cancelled.{none_cleared_now, cleared_so}
 use Rattle.book_tables.proofs.Moves.{step, kept-append, never_turn, steps_left, steps_start, steps_mails, steps_cleared, steps_missed, steps_dealt}
 use Rattle.book_tables.proofs.RowsAfter.{all_kept}
-use Rattle.book_tables.proofs.PreferenceLemmas.{at_number, preferred_in-list, at_number-added, at_number-changed, preferred_by-nil, preferred_by-left, IsPreferredAfter, after-setting, after-specific, after-policy, after-mute}
+use Rattle.book_tables.proofs.PreferenceLemmas.{at_number, preferred_in-list, at_number-added, at_number-changed, preferred_by-left, IsPreferredAfter, after-setting, after-specific, after-policy, after-mute}
 use Rattle.book_tables.proofs.UserSets.{is_in, has_in-sets, is_in-added, is_in-changed}
 use Rattle.book_tables.proofs.SetSizes.{are_grown, are_added, are_changed, are_user_sets, numbered-within, user_within, ascending_set}
 
@@ -86,15 +91,6 @@ and-swap true true = refl
 and-swap true false = refl
 and-swap false true = refl
 and-swap false false = refl
-
-changed-long : {A : Type 0} (n : ℕ) (f : A → A) (xs : List A) → length (changed_numbered n f xs) ≡ length xs
-changed-long zero f xs = refl
-changed-long {A} (suc n) f xs = from n xs
-  where
-    from : (n : ℕ) (xs : List A) → length (changed_at n f xs) ≡ length xs
-    from n [] = refl
-    from zero (x ∷ xs) = refl
-    from (suc n) (x ∷ xs) = ap suc (from n xs)
 
 slice_get-there : {A : Type 0} (n : ℕ) (xs : List A) → n < length xs → is_some (slice_get xs n) ≡ true
 slice_get-there n [] lt = absurd (omega arith)
@@ -136,6 +132,19 @@ next_number n = omega arith
 one_longer : {A : Type 0} (xs : List A) (x : A) → length (xs ++ x ∷ []) ≡ length xs + 1
 one_longer xs x = length-append xs (x ∷ [])
 
+-- batches of the same users hold the same
+same_batches : (old new : Batches) (j : List Stamped) → new.batches ≡ old.batches → HoldBatches old j → HoldBatches new j
+same_batches old new j same held = record {
+  rows = λ u. subst (IsPermutation (map (λ n. n.number) (batch_rows j u))) (sym (rows u)) (held.rows u);
+  due = λ u. dues u ∙ held.due u;
+}
+  where
+    rows : (u : UserId) → rows_of new u ≡ rows_of old u
+    rows u = ap (λ (bs : finite.FinMap nat_cmp Batch). option_map_or (λ (b : Batch). b.rows) (finite.get bs u.0) []) same
+
+    dues : (u : UserId) → due_of new u ≡ due_of old u
+    dues u = ap (λ (bs : finite.FinMap nat_cmp Batch). option_map (λ (b : Batch). b.due) (finite.get bs u.0)) same
+
 -- tables that hold the same stand for the same journal
 pub same_stands : (old new : Tables) (j : List Stamped) → Holds old j → HoldTheSame old new → Holds new j
 same_stands old new j stands same = record {
@@ -153,8 +162,10 @@ same_stands old new j stands same = record {
   channels = same.channels ∙ stands.channels;
   messages = same.messages ∙ stands.messages;
   waiting = same.waiting ∙ stands.waiting;
+  batches = same_batches old.batches new.batches j same.batches stands.batches;
   deals = same.deals ∙ stands.deals;
   outbox = same.outbox ∙ stands.outbox;
+  handed = same.handed ∙ stands.handed;
   off = same.off ∙ stands.off;
   live = same.live ∙ stands.live;
 }
@@ -213,8 +224,9 @@ record MessagesAgree (j : List Stamped) (s : Stamped) (e : Effect) : Type 0 wher
 
 -- what waits, what was handed, what was switched off and what was cleared
 record NoticesAgree (j : List Stamped) (s : Stamped) (e : Effect) : Type 0 where
-  wait : all_kept (j ++ s ∷ []) ≡ waiting_after s.at e (all_kept j)
-  handed : outbox (j ++ s ∷ []) ≡ outbox_after e (outbox j)
+  wait : all_kept (j ++ s ∷ []) ≡ waiting_after e (all_kept j)
+  entries : outbox (j ++ s ∷ []) ≡ outbox_after e (outbox j)
+  handed : in_64_bits (handed_over (j ++ s ∷ [])) ≡ handed_after e (in_64_bits (handed_over j))
   off : in_64_bits (switched_off (j ++ s ∷ [])) ≡ off_after e (in_64_bits (switched_off j))
   live : in_64_bits (cleared_live (j ++ s ∷ [])) ≡ live_after e (all_kept j) (in_64_bits (cleared_live j))
 
@@ -226,11 +238,17 @@ record Agrees (j : List Stamped) (s : Stamped) (e : Effect) : Type 0 where
   of_channels : ChannelsAgree j s e
   of_messages : MessagesAgree j s e
   of_notices : NoticesAgree j s e
+  of_batches : BatchesAgree j s e
 
 -- tables to which such an effect was made stand for the journal with the event
 agreed : (old new : Tables) (j : List Stamped) → Holds old j → (s : Stamped) (e : Effect) → Agrees j s e → IsApplied old new s.at e → new.last ≡ s.at → Holds new (j ++ s ∷ [])
 agreed old new j stands s e agrees applied last =
-    let order : IsInOrder old.waiting.items = subst IsInOrder (sym stands.waiting) (waiting-ordered j) in
+    let kept : new.waiting.items ≡ all_kept (j ++ s ∷ []) = applied.waiting ∙ (ap (waiting_after e) stands.waiting ∙ sym agrees.of_notices.wait) in
+    let preferred_so : (u : UserId) → preferred_in new.preferences.items u.0 ≡ preferred_by (j ++ s ∷ []) u =
+    λ u.
+    preferred_in-list new.preferences.items u.0
+    ∙ (ap (λ ps. at_number ps u.0) applied.preferences
+    ∙ agrees.of_users.prefer (map preferred old.preferences.items) (length-map old.preferences.items preferred ∙ stands.preferences_long) (λ v. sym (preferred_in-list old.preferences.items v.0) ∙ stands.preferences v) u) in
     let users = agrees.of_users in let members = agrees.of_groups.sets in let subscribers = agrees.of_channels.sets in
     let all = map preferred old.preferences.items in
     let in_groups = map users_in old.members.items in let in_channels = map users_in old.subscribers.items in
@@ -242,9 +260,7 @@ agreed old new j stands s e agrees applied last =
       starts = applied.starts ∙ (ap (starts_after e) stands.starts ∙ sym agrees.starts);
       names = applied.names ∙ (ap (names_after e) stands.names ∙ sym users.named);
       bots = applied.bots ∙ (ap (bots_after e) stands.bots ∙ sym users.automatic);
-      preferences = λ u.
-          preferred_in-list new.preferences.items u.0
-          ∙ (ap (λ ps. at_number ps u.0) applied.preferences ∙ users.prefer all people_long (λ v. sym (preferred_in-list old.preferences.items v.0) ∙ stands.preferences v) u);
+      preferences = preferred_so;
       preferences_long = sym (length-map new.preferences.items preferred) ∙ (ap length applied.preferences ∙ users.count all people_long);
       members = λ g u.
           has_in-sets new.members.items g.0 u
@@ -257,11 +273,14 @@ agreed old new j stands s e agrees applied last =
       subscriber_sets = are_user_sets (length (channels (j ++ s ∷ []))) (length (people (j ++ s ∷ []))) new.subscribers.items (subscribers_after e in_channels) applied.subscribers (subscribers.count in_channels channels_long) (subscribers.are in_channels stands.subscriber_sets.sets);
       channels = applied.channels ∙ (ap (channels_after e) stands.channels ∙ sym agrees.of_channels.named);
       messages = applied.messages ∙ (ap (messages_after e) stands.messages ∙ sym agrees.of_messages.sent);
-      waiting = applied.waiting order ∙ (ap (waiting_after s.at e) stands.waiting ∙ sym agrees.of_notices.wait);
+      waiting = kept;
+      batches = agrees.of_batches.after (period_in old.preferences.items) (period_in new.preferences.items) new.waiting.items old.batches new.batches
+          (λ u. ap (λ (p : Preferred). p.settings.period) (stands.preferences u)) (λ u. ap (λ (p : Preferred). p.settings.period) (preferred_so u)) kept stands.batches applied.batches;
       deals = applied.deals ∙ (ap (deals_after e) stands.deals ∙ sym agrees.of_messages.dealt);
-      outbox = applied.outbox ∙ (ap (outbox_after e) stands.outbox ∙ sym agrees.of_notices.handed);
+      outbox = applied.outbox ∙ (ap (outbox_after e) stands.outbox ∙ sym agrees.of_notices.entries);
+      handed = applied.handed ∙ (ap (handed_after e) stands.handed ∙ sym agrees.of_notices.handed);
       off = applied.off ∙ (ap (off_after e) stands.off ∙ sym agrees.of_notices.off);
-      live = applied.live order ∙ ((λ i. live_after e (stands.waiting i) (stands.live i)) ∙ sym agrees.of_notices.live);
+      live = applied.live ∙ ((λ i. live_after e (stands.waiting i) (stands.live i)) ∙ sym agrees.of_notices.live);
     }
 
 -- a count at the end of 64 bits stands still
@@ -329,10 +348,16 @@ module _ (j : List Stamped) (s : Stamped) (e : Effect) where
   }
 
   -- nothing is handed over or switched off
+  none_handed : entries_by j s.at s.event ≡ [] → handed_over (j ++ s ∷ []) ≡ handed_over j
+  none_handed none =
+      let all = handed_over-append j s in
+      let no_entry = ap (sum_by item_count) none in
+      omega (arith, all, no_entry)
+
   none_off : ((u : UserId) → is_mail_turn_of u s.event ≡ false) → entries_by j s.at s.event ≡ [] → switched_off (j ++ s ∷ []) ≡ switched_off j
   none_off never none =
       let all = switched_off-append j s in
-      let no_entry = ap length none in
+      let no_entry = ap (sum_by item_count) none in
       let turned = ap length (filter_none (is_turned j s) (λ n. ap (λ b. is_ready j n && b) (never_turn s never n.user n.way) ∙ and-false (is_ready j n)) (waiting j)) in
       omega (arith, all, no_entry, turned)
 
@@ -348,18 +373,26 @@ module _ (j : List Stamped) (s : Stamped) (e : Effect) where
 
   -- an event that owes nothing, is no turn and clears nothing
   notices_moved : ((u : UserId) → is_mail_turn_of u s.event ≡ false) → ((u : UserId) (k : DealNo) → clears u k s.event ≡ false) → owed_by (occurrence j s) ≡ [] → entries_by j s.at s.event ≡ []
-      → ((ws : List Waiting) → waiting_after s.at e ws ≡ filter_map (step s) ws) → ((es : List Entry) → outbox_after e es ≡ es) → ((n : ℕ) → off_after e n ≡ n) → ((ws : List Waiting) (n : ℕ) → live_after e ws n ≡ n) → NoticesAgree j s e
-  notices_moved never not_cleared none no_entry moved_so same_outbox same_off same_live = record {
+      → ((ws : List Waiting) → waiting_after e ws ≡ filter_map (step s) ws) → ((es : List Entry) → outbox_after e es ≡ es) → ((n : ℕ) → handed_after e n ≡ n) → ((n : ℕ) → off_after e n ≡ n) → ((ws : List Waiting) (n : ℕ) → live_after e ws n ≡ n) → NoticesAgree j s e
+  notices_moved never not_cleared none no_entry moved_so same_outbox same_handed same_off same_live = record {
     wait = all_moved none ∙ sym (moved_so (all_kept j));
-    handed = outbox-append j s ∙ (ap (λ es. outbox j ++ es) no_entry ∙ (append-nil (outbox j) ∙ sym (same_outbox (outbox j))));
+    entries = outbox-append j s ∙ (ap (λ es. outbox j ++ es) no_entry ∙ (append-nil (outbox j) ∙ sym (same_outbox (outbox j))));
+    handed = ap in_64_bits (none_handed no_entry) ∙ sym (same_handed (in_64_bits (handed_over j)));
     off = ap in_64_bits (none_off never no_entry) ∙ sym (same_off (in_64_bits (switched_off j)));
     live = ap in_64_bits (none_cleared not_cleared) ∙ sym (same_live (all_kept j) (in_64_bits (cleared_live j)));
   }
 
   notices_left : IsCalm s → owed_by (occurrence j s) ≡ [] → entries_by j s.at s.event ≡ []
-      → ((ws : List Waiting) → waiting_after s.at e ws ≡ ws) → ((es : List Entry) → outbox_after e es ≡ es) → ((n : ℕ) → off_after e n ≡ n) → ((ws : List Waiting) (n : ℕ) → live_after e ws n ≡ n) → NoticesAgree j s e
-  notices_left calm none no_entry same_waiting same_outbox same_off same_live =
-      notices_moved calm.never calm.not_cleared none no_entry (λ ws. same_waiting ws ∙ sym (steps_left s calm.never calm.not_ready calm.not_cleared calm.not_dealt ws)) same_outbox same_off same_live
+      → ((ws : List Waiting) → waiting_after e ws ≡ ws) → ((es : List Entry) → outbox_after e es ≡ es) → ((n : ℕ) → handed_after e n ≡ n) → ((n : ℕ) → off_after e n ≡ n) → ((ws : List Waiting) (n : ℕ) → live_after e ws n ≡ n) → NoticesAgree j s e
+  notices_left calm none no_entry same_waiting same_outbox same_handed same_off same_live =
+      notices_moved calm.never calm.not_cleared none no_entry (λ ws. same_waiting ws ∙ sym (steps_left s calm.never calm.not_ready calm.not_cleared calm.not_dealt ws)) same_outbox same_handed same_off same_live
+
+  -- no period changes
+  same_period : ((u : UserId) → setting_change u s.event ≡ None) → (u : UserId) → (settings (j ++ s ∷ []) u).period ≡ (settings j u).period
+  same_period no_setting u = ap (λ (p : Settings). p.period) (settings-append j s u ∙ ap (λ o. option_map_or (λ d. changed_settings d (settings j u)) o (settings j u)) (no_setting u))
+
+  batches_calm : IsCalm s → ((u : UserId) → setting_change u s.event ≡ None) → ((p q : UserId → ℕ) (ws : List Waiting) (old new : Batches) → BatchesAfter p q ws s.at e old new → new ≡ old) → BatchesAgree j s e
+  batches_calm calm no_setting stays = batches_left j s e calm.never calm.not_ready (same_period no_setting) stays
 
 -- a request is nothing to a notice that waits
 calm_asked : (at : ℕ) (r : Request) → IsCalm (record { at = at; event = Asked r })
@@ -377,7 +410,8 @@ module _ (j : List Stamped) where
         of_groups = groups_left j s e refl (λ g u. refl) (still_sets j s e refl) (λ gs. refl) (λ sets. refl);
         of_channels = channels_left j s e refl (λ u c. refl) (still_sets j s e refl) (λ cs. refl) (λ sets. refl);
         of_messages = messages_left j s e refl (λ ms. refl) (λ ds. refl);
-        of_notices = notices_moved j s e (λ u. refl) (λ u k. refl) refl refl (λ ws. sym (steps_start at ws)) (λ es. refl) (λ n. refl) (λ ws n. refl);
+        of_notices = notices_moved j s e (λ u. refl) (λ u k. refl) refl refl (λ ws. sym (steps_start at ws)) (λ es. refl) (λ n. refl) (λ n. refl) (λ ws n. refl);
+        of_batches = batches_readied j s e (λ u. refl) (same_period j s e (λ u. refl)) (λ p q ws old new made. made);
       }
 
   agrees_user : (at : ℕ) (name : List ℕ) (bot : Bool) → Agrees j (record { at = at; event = Asked (AddUser name bot) }) (effect.User (record { id = record { 0 = length (people j) + 1 }; name = name }) bot)
@@ -399,7 +433,8 @@ module _ (j : List Stamped) where
         of_groups = groups_left j s e refl (λ g u. refl) grown (λ gs. refl) (λ sets. refl);
         of_channels = channels_left j s e refl (λ u c. refl) grown (λ cs. refl) (λ sets. refl);
         of_messages = messages_left j s e refl (λ ms. refl) (λ ds. refl);
-        of_notices = notices_left j s e (calm_asked at (AddUser name bot)) refl refl (λ ws. refl) (λ es. refl) (λ n. refl) (λ ws n. refl);
+        of_notices = notices_left j s e (calm_asked at (AddUser name bot)) refl refl (λ ws. refl) (λ es. refl) (λ n. refl) (λ n. refl) (λ ws n. refl);
+        of_batches = batches_calm j s e (calm_asked at (AddUser name bot)) (λ u. refl) (λ p q ws old new made. made);
       }
 
   agrees_group : (at : ℕ) (name : List ℕ) (members : List UserId) (e : Effect) → list_all (is_user j) members ≡ true → is_ascending members ≡ true
@@ -414,7 +449,7 @@ module _ (j : List Stamped) where
   agrees_group at name members (effect.Dealt d idle live) there ascending fits = absurd fits
   agrees_group at name members (effect.Cleared u ds) there ascending fits = absurd fits
   agrees_group at name members (effect.Missed u ds) there ascending fits = absurd fits
-  agrees_group at name members (effect.Mailed user entries off) there ascending fits = absurd fits
+  agrees_group at name members (effect.Mailed user entries handed off) there ascending fits = absurd fits
   agrees_group at name members (effect.Group group set) there ascending fits =
       let s : Stamped = record { at = at; event = Asked (AddGroup name members) } in
       let e = effect.Group group set in let n = length (people j) in
@@ -437,7 +472,8 @@ module _ (j : List Stamped) where
         };
         of_channels = channels_left j s e refl (λ u c. refl) (still_sets j s e refl) (λ cs. refl) (λ sets. refl);
         of_messages = messages_left j s e refl (λ ms. refl) (λ ds. refl);
-        of_notices = notices_left j s e (calm_asked at (AddGroup name members)) refl refl (λ ws. refl) (λ es. refl) (λ n. refl) (λ ws n. refl);
+        of_notices = notices_left j s e (calm_asked at (AddGroup name members)) refl refl (λ ws. refl) (λ es. refl) (λ n. refl) (λ n. refl) (λ ws n. refl);
+        of_batches = batches_calm j s e (calm_asked at (AddGroup name members)) (λ u. refl) (λ p q ws old new made. made);
       }
     where
       chosen : (b x y : Bool) → unwrap_or (if b then Some x else None) y ≡ cond b x y
@@ -455,7 +491,8 @@ module _ (j : List Stamped) where
         of_groups = record { named = ap (named_groups_from 1) (same_groups j s e refl); sets = changed };
         of_channels = channels_left j s e refl (λ u c. refl) (still_sets j s e refl) (λ cs. refl) (λ sets. refl);
         of_messages = messages_left j s e refl (λ ms. refl) (λ ds. refl);
-        of_notices = notices_left j s e (calm_asked at (Member h v on)) refl refl (λ ws. refl) (λ es. refl) (λ n. refl) (λ ws n. refl);
+        of_notices = notices_left j s e (calm_asked at (Member h v on)) refl refl (λ ws. refl) (λ es. refl) (λ n. refl) (λ n. refl) (λ ws n. refl);
+        of_batches = batches_calm j s e (calm_asked at (Member h v on)) (λ u. refl) (λ p q ws old new made. made);
       }
 
   agrees_channel : (at : ℕ) (name : List ℕ) → Agrees j (record { at = at; event = Asked (AddChannel name) }) (effect.Channel name)
@@ -475,7 +512,8 @@ module _ (j : List Stamped) where
           };
         };
         of_messages = messages_left j s e refl (λ ms. refl) (λ ds. refl);
-        of_notices = notices_left j s e (calm_asked at (AddChannel name)) refl refl (λ ws. refl) (λ es. refl) (λ n. refl) (λ ws n. refl);
+        of_notices = notices_left j s e (calm_asked at (AddChannel name)) refl refl (λ ws. refl) (λ es. refl) (λ n. refl) (λ n. refl) (λ ws n. refl);
+        of_batches = batches_calm j s e (calm_asked at (AddChannel name)) (λ u. refl) (λ p q ws old new made. made);
       }
 
   agrees_subscription : (at : ℕ) (v : UserId) (h : ChannelId) (on : Bool) → is_user j v ≡ true → is_channel j h ≡ true → Agrees j (record { at = at; event = Asked (Subscribe v h on) }) (effect.Subscription h v on)
@@ -489,7 +527,8 @@ module _ (j : List Stamped) where
         of_groups = groups_left j s e refl (λ g u. refl) (still_sets j s e refl) (λ gs. refl) (λ sets. refl);
         of_channels = record { named = same_channels j s e refl; sets = changed };
         of_messages = messages_left j s e refl (λ ms. refl) (λ ds. refl);
-        of_notices = notices_left j s e (calm_asked at (Subscribe v h on)) refl refl (λ ws. refl) (λ es. refl) (λ n. refl) (λ ws n. refl);
+        of_notices = notices_left j s e (calm_asked at (Subscribe v h on)) refl refl (λ ws. refl) (λ es. refl) (λ n. refl) (λ n. refl) (λ ws n. refl);
+        of_batches = batches_calm j s e (calm_asked at (Subscribe v h on)) (λ u. refl) (λ p q ws old new made. made);
       }
 
   -- an event that sends a message
@@ -508,7 +547,7 @@ module _ (j : List Stamped) where
   agrees_sent s m sends no_start nobody no_group no_channel no_member no_subscription no_setting no_specific no_policy no_mute calm no_entry (effect.Dealt d idle live) fits = absurd fits
   agrees_sent s m sends no_start nobody no_group no_channel no_member no_subscription no_setting no_specific no_policy no_mute calm no_entry (effect.Cleared u ds) fits = absurd fits
   agrees_sent s m sends no_start nobody no_group no_channel no_member no_subscription no_setting no_specific no_policy no_mute calm no_entry (effect.Missed u ds) fits = absurd fits
-  agrees_sent s m sends no_start nobody no_group no_channel no_member no_subscription no_setting no_specific no_policy no_mute calm no_entry (effect.Mailed user entries off) fits = absurd fits
+  agrees_sent s m sends no_start nobody no_group no_channel no_member no_subscription no_setting no_specific no_policy no_mute calm no_entry (effect.Mailed user entries handed off) fits = absurd fits
   agrees_sent s m sends no_start nobody no_group no_channel no_member no_subscription no_setting no_specific no_policy no_mute calm no_entry (effect.Message message owed deal) fits =
       let e = effect.Message message owed deal in
       record {
@@ -522,10 +561,12 @@ module _ (j : List Stamped) where
         };
         of_notices = record {
           wait = kept-append j s ∙ (ap (λ ws. ws ++ map in_flight (owed_by (occurrence j s))) (steps_left s calm.never calm.not_ready calm.not_cleared calm.not_dealt (all_kept j)) ∙ ap (λ ws. all_kept j ++ ws) (sym fits.1));
-          handed = outbox-append j s ∙ (ap (λ es. outbox j ++ es) no_entry ∙ append-nil (outbox j));
+          entries = outbox-append j s ∙ (ap (λ es. outbox j ++ es) no_entry ∙ append-nil (outbox j));
+          handed = ap in_64_bits (none_handed j s e no_entry);
           off = ap in_64_bits (none_off j s e calm.never no_entry);
           live = ap in_64_bits (none_cleared j s e calm.not_cleared);
         };
+        of_batches = batches_calm j s e calm no_setting (λ p q ws old new made. made);
       }
 
   agrees_send : (at : ℕ) (sender : UserId) (to : Destination) (text : List ℕ) (e : Effect) → IsSendOf j at sender to text e → Agrees j (record { at = at; event = Asked (request_to sender to text) }) e
@@ -555,30 +596,15 @@ module _ (j : List Stamped) where
         of_groups = groups_left j s e no_group no_member (still_sets j s e nobody) (λ gs. refl) (λ sets. refl);
         of_channels = channels_left j s e no_channel no_subscription (still_sets j s e nobody) (λ cs. refl) (λ sets. refl);
         of_messages = messages_left j s e no_message (λ ms. refl) (λ ds. refl);
-        of_notices = notices_left j s e calm owes_none no_entry (λ ws. refl) (λ es. refl) (λ n. refl) (λ ws n. refl);
+        of_notices = notices_left j s e calm owes_none no_entry (λ ws. refl) (λ es. refl) (λ n. refl) (λ n. refl) (λ ws n. refl);
+        of_batches = batches_changed j s v change calm.never calm.not_ready (λ u other. ap (λ (p : Preferred). p.settings.period) (after u ∙ ap (λ b. cond b (preferred_after change (preferred_by j u)) (preferred_by j u)) other));
       }
 
   -- a mail turn switches all of a user's batch rows off, or none
   more_off : (at : ℕ) (user : UserId) → switched_off (j ++ record { at = at; event = MailTurn user } ∷ []) ≡ switched_off j + switched_at j user
-  more_off at user =
-      let s : Stamped = record { at = at; event = MailTurn user } in
-      let rows = length (batch_rows j user) in
-      let made = length (map (mail_entry j at) (by_message (mailed j user))) in
-      let turned = length (filter (is_turned j s) (waiting j)) in
-      let all_turned : turned ≡ rows = ap length (sym (batch_rows-waiting j user ∙ filter_same (is_ready_mail_of j user) (is_turned j s) (λ n. and-swap (is_mail_of user n) (is_ready j n) ∙ ap (λ b. is_ready j n && b) (turn_of_mail user n.user n.way)) (waiting j))) in
-      let all_made : made ≡ rows = length-map (by_message (mailed j user)) (mail_entry j at) ∙ ap length (by_message-mailed j user ∙ sym (batch_rows-waiting j user)) in
-      elim (switch_on j user Mail) as (λ on. switched_off (j ++ s ∷ []) + length (if on then map (mail_entry j at) (by_message (mailed j user)) else []) ≡ switched_off j + turned → switched_off (j ++ s ∷ []) ≡ switched_off j + (if on then 0 else rows)) [
-        | true ↦ λ h. all_on (switched_off (j ++ s ∷ [])) (switched_off j) made rows turned all_made all_turned h
-        | false ↦ λ h. all_off (switched_off (j ++ s ∷ [])) (switched_off j) rows turned all_turned h
-      ] (switched_off-append j s)
-    where
-      all_on : (n before made rows turned : ℕ) → made ≡ rows → turned ≡ rows → n + made ≡ before + turned → n ≡ before + 0
-      all_on n before made rows turned e f h = omega arith
+  more_off at user = switched_off-mailed j at user ∙ ap (λ n. switched_off j + n) (dropped-switched j user)
 
-      all_off : (n before rows turned : ℕ) → turned ≡ rows → n + 0 ≡ before + turned → n ≡ before + rows
-      all_off n before rows turned f h = omega arith
-
-  agrees_mails : (at : ℕ) (user : UserId) (e : Effect) → IsMailed e user (mail_entries j at user) (switched_at j user) → Agrees j (record { at = at; event = MailTurn user }) e
+  agrees_mails : (at : ℕ) (user : UserId) (e : Effect) → IsMailed e user (mail_entries j at user) (length (mail_items j user)) (switched_at j user) → Agrees j (record { at = at; event = MailTurn user }) e
   agrees_mails at user effect.Start fits = absurd fits
   agrees_mails at user (effect.User u bot) fits = absurd fits
   agrees_mails at user (effect.Group group members) fits = absurd fits
@@ -590,8 +616,8 @@ module _ (j : List Stamped) where
   agrees_mails at user (effect.Missed v ds) fits = absurd fits
   agrees_mails at user (effect.Cleared v ds) fits = absurd fits
   agrees_mails at user (effect.Dealt d idle live) fits = absurd fits
-  agrees_mails at user (effect.Mailed mailed entries off) fits =
-      let s : Stamped = record { at = at; event = MailTurn user } in let e = effect.Mailed mailed entries off in
+  agrees_mails at user (effect.Mailed mailed entries handed off) fits =
+      let s : Stamped = record { at = at; event = MailTurn user } in let e = effect.Mailed mailed entries handed off in
       record {
         starts = starts_left j s e refl (λ n. refl);
         of_users = users_left j s e refl (λ u. refl) (λ u c. refl) (λ u c topic. refl) (λ u v. refl) (λ ns. refl) (λ bs. refl) (λ ps. refl);
@@ -600,17 +626,19 @@ module _ (j : List Stamped) where
         of_messages = messages_left j s e refl (λ ms. refl) (λ ds. refl);
         of_notices = record {
           wait = all_moved j s e refl ∙ (steps_mails at user (all_kept j) ∙ ap (λ (u : UserId). filter (λ w. not (is_ready_mail_to u w)) (all_kept j)) (sym fits.0));
-          handed = outbox-append j s ∙ ap (λ es. outbox j ++ es) (sym fits.1);
-          off = ap in_64_bits (more_off at user) ∙ (sym (added (switched_off j) (switched_at j user)) ∙ ap (λ n. min (in_64_bits (switched_off j) + n) (2 ^ 64 - 1)) (sym fits.2));
+          entries = outbox-append j s ∙ ap (λ es. outbox j ++ es) (sym fits.1);
+          handed = ap in_64_bits (handed_over-mailed j at user) ∙ (sym (added (handed_over j) (length (mail_items j user))) ∙ ap (λ n. min (in_64_bits (handed_over j) + n) (2 ^ 64 - 1)) (sym fits.2));
+          off = ap in_64_bits (more_off at user) ∙ (sym (added (switched_off j) (switched_at j user)) ∙ ap (λ n. min (in_64_bits (switched_off j) + n) (2 ^ 64 - 1)) (sym fits.3));
           live = ap in_64_bits (none_cleared j s e (λ u k. refl));
         };
+        of_batches = subst (λ (v : UserId). BatchesAgree j (record { at = at; event = MailTurn v }) e) fits.0 (batches_settled j at mailed e (λ p q ws old new made. made) (same_period j (record { at = at; event = MailTurn mailed }) e (λ u. refl)));
       }
 
   -- an absorbed outcome, with what it makes of the notices
   agrees_absorbed : (at : ℕ) (o : Outcome) (e : Effect) → ((n : ℕ) → starts_after e n ≡ n) → ((ns : List UserName) → names_after e ns ≡ ns) → ((bs : List Bool) → bots_after e bs ≡ bs) → ((ps : List Preferred) → preferences_after e ps ≡ ps)
       → ((gs : List GroupName) → groups_after e gs ≡ gs) → ((sets : List (List UserId)) → members_after e sets ≡ sets) → ((cs : List (List ℕ)) → channels_after e cs ≡ cs) → ((sets : List (List UserId)) → subscribers_after e sets ≡ sets)
-      → ((ms : List Message) → messages_after e ms ≡ ms) → ((ds : List Deal) → deals_after e ds ≡ ds) → NoticesAgree j (record { at = at; event = Absorbed o }) e → Agrees j (record { at = at; event = Absorbed o }) e
-  agrees_absorbed at o e starts names bots preferences group_list members channel_list subscribers ms ds notices =
+      → ((ms : List Message) → messages_after e ms ≡ ms) → ((ds : List Deal) → deals_after e ds ≡ ds) → NoticesAgree j (record { at = at; event = Absorbed o }) e → BatchesAgree j (record { at = at; event = Absorbed o }) e → Agrees j (record { at = at; event = Absorbed o }) e
+  agrees_absorbed at o e starts names bots preferences group_list members channel_list subscribers ms ds notices batches =
       let s : Stamped = record { at = at; event = Absorbed o } in
       record {
         starts = starts_left j s e refl starts;
@@ -619,6 +647,7 @@ module _ (j : List Stamped) where
         of_channels = channels_left j s e refl (λ u c. refl) (still_sets j s e refl) channel_list subscribers;
         of_messages = messages_left j s e refl ms ds;
         of_notices = notices;
+        of_batches = batches;
       }
 
   agrees_dealt : (at : ℕ) (k : DealNo) (verdicts : List UserVerdict) (e : Effect) → IsDealt e k verdicts → Agrees j (record { at = at; event = Absorbed (Dealt k verdicts) }) e
@@ -632,29 +661,36 @@ module _ (j : List Stamped) where
   agrees_dealt at k verdicts (effect.Message message owed deal) fits = absurd fits
   agrees_dealt at k verdicts (effect.Cleared u ds) fits = absurd fits
   agrees_dealt at k verdicts (effect.Missed u ds) fits = absurd fits
-  agrees_dealt at k verdicts (effect.Mailed u entries off) fits = absurd fits
+  agrees_dealt at k verdicts (effect.Mailed u entries handed off) fits = absurd fits
   agrees_dealt at k verdicts (effect.Dealt d idle live) fits =
       let s : Stamped = record { at = at; event = Absorbed (Dealt k verdicts) } in let e = effect.Dealt d idle live in
       agrees_absorbed at (Dealt k verdicts) e (λ n. refl) (λ ns. refl) (λ bs. refl) (λ ps. refl) (λ gs. refl) (λ sets. refl) (λ cs. refl) (λ sets. refl) (λ ms. refl) (λ ds. refl)
       (notices_moved j s e (λ u. refl) (λ u k. refl) refl refl
-      (λ ws. ap (λ (q : DealNo). map (λ w. if of_deal q w then dealt_to at (users_in idle) (users_in live) w else w) ws) fits.0 ∙ sym (steps_dealt at k verdicts (users_in idle) (users_in live) fits.1 fits.2 ws))
-      (λ es. refl) (λ n. refl) (λ ws n. refl))
+      (λ ws. ap (λ (q : DealNo). map (λ w. if of_deal q w then dealt_to (users_in idle) (users_in live) w else w) ws) fits.0 ∙ sym (steps_dealt at k verdicts (users_in idle) (users_in live) fits.1 fits.2 ws))
+      (λ es. refl) (λ n. refl) (λ n. refl) (λ ws n. refl))
+      (batches_readied j s e (λ u. refl) (same_period j s e (λ u. refl)) (λ p q ws old new made. made))
 
   agrees_missed : (at : ℕ) (u : UserId) (deals : List DealNo) → Agrees j (record { at = at; event = Absorbed (Missed u deals) }) (effect.Missed u deals)
   agrees_missed at u deals =
       let s : Stamped = record { at = at; event = Absorbed (Missed u deals) } in let e = effect.Missed u deals in
       agrees_absorbed at (Missed u deals) e (λ n. refl) (λ ns. refl) (λ bs. refl) (λ ps. refl) (λ gs. refl) (λ sets. refl) (λ cs. refl) (λ sets. refl) (λ ms. refl) (λ ds. refl)
-      (notices_moved j s e (λ u. refl) (λ u k. refl) refl refl (λ ws. sym (steps_missed at u deals ws)) (λ es. refl) (λ n. refl) (λ ws n. refl))
+      (notices_moved j s e (λ u. refl) (λ u k. refl) refl refl (λ ws. sym (steps_missed at u deals ws)) (λ es. refl) (λ n. refl) (λ n. refl) (λ ws n. refl))
+      (batches_readied j s e (λ u. refl) (same_period j s e (λ u. refl)) (λ p q ws old new made. made))
 
   agrees_cleared : (at : ℕ) (u : UserId) (deals : List DealNo) (q : QueueId) → Agrees j (record { at = at; event = Absorbed (Cleared u deals q) }) (effect.Cleared u deals)
   agrees_cleared at u deals q =
       let s : Stamped = record { at = at; event = Absorbed (Cleared u deals q) } in let e = effect.Cleared u deals in
       agrees_absorbed at (Cleared u deals q) e (λ n. refl) (λ ns. refl) (λ bs. refl) (λ ps. refl) (λ gs. refl) (λ sets. refl) (λ cs. refl) (λ sets. refl) (λ ms. refl) (λ ds. refl) (record {
         wait = all_moved j s e refl ∙ steps_cleared at u deals q (all_kept j);
-        handed = outbox-append j s ∙ append-nil (outbox j);
+        entries = outbox-append j s ∙ append-nil (outbox j);
+        handed = ap in_64_bits (none_handed j s e refl);
         off = ap in_64_bits (none_off j s e (λ v. refl) refl);
         live = ap in_64_bits (cleared_live-append j s ∙ ap (λ n. cleared_live j + n) (cleared_so j at u deals q)) ∙ sym (added (cleared_live j) (length (filter (is_cleared u deals) (all_kept j))));
-      })
+      }) (batches_left j s e (λ v. refl) none_ready (same_period j s e (λ v. refl)) (λ p q' ws old new made. made))
+    where
+      none_ready : (v : UserId) (k : DealNo) (online : Bool) → readies v k online (Absorbed (Cleared u deals q)) ≡ false
+      none_ready v k true = refl
+      none_ready v k false = refl
 
   -- what a request that may stand tells
 
@@ -737,50 +773,10 @@ applied_at old new at e applied = record {
   subscribers = applied.subscribers;
   messages = applied.messages;
   waiting = applied.waiting;
+  batches = applied.batches;
   deals = applied.deals;
   outbox = applied.outbox;
+  handed = applied.handed;
   off = applied.off;
   live = applied.live;
 }
-
-nothing_off : 0 ≡ in_64_bits (switched_off [])
-unfolding owed_with
-nothing_off = ap (λ ns. in_64_bits (count_by (λ n. same_account (account_of [] n) (Cancelled SwitchedOff)) ns)) (sym notices-nil)
-
-nothing_cleared : 0 ≡ in_64_bits (cleared_live [])
-unfolding owed_with
-nothing_cleared = ap (λ ns. in_64_bits (count_by (λ n. same_account (account_of [] n) LiveQueue) ns)) (sym notices-nil)
-
-no_start : 0 ≡ in_64_bits (start_count [])
-no_start = ap in_64_bits (sym start_count-nil)
-
--- the tables of the empty journal
-pub empty_stands : (t : Tables) → t.last ≡ 0 → t.starts ≡ 0 → t.names.items ≡ [] → t.bots.items ≡ [] → t.groups.items ≡ [] → t.members.items ≡ [] → t.channels.items ≡ [] → t.subscribers.items ≡ [] → t.messages.items ≡ [] → t.waiting.items ≡ [] → t.deals.items ≡ [] → t.outbox.items ≡ [] → t.preferences.items ≡ [] → t.off ≡ 0 → t.live ≡ 0 → Holds t []
-empty_stands t last starts names bots group_list members channel_list subscribers ms ws ds es ps off live = record {
-  last = last;
-  starts = starts ∙ no_start;
-  names = names ∙ ap (named_from 1) (sym people-nil);
-  bots = bots ∙ ap (map (λ (p : Person). p.bot)) (sym people-nil);
-  preferences = λ u. ap (λ all. preferred_in all u.0) ps ∙ (nothing_set u.0 ∙ sym (preferred_by-nil u));
-  preferences_long = ap length ps ∙ ap length (sym people-nil);
-  members = λ g u. ap (λ cs. has_in cs g.0 u) members ∙ (no_set g.0 u ∙ sym (is_member-nil g u));
-  member_sets = are_user_sets (length (groups [])) (length (people [])) t.members.items [] (ap (map users_in) members) (ap length (sym groups-nil)) tt;
-  groups = group_list ∙ ap (named_groups_from 1) (sym groups-nil);
-  subscribers = λ c u. ap (λ cs. has_in cs c.0 u) subscribers ∙ (no_set c.0 u ∙ sym (subscribed-nil u c));
-  subscriber_sets = are_user_sets (length (channels [])) (length (people [])) t.subscribers.items [] (ap (map users_in) subscribers) (ap length (sym channels-nil)) tt;
-  channels = channel_list ∙ sym channels-nil;
-  messages = ms ∙ ap (map message_kept) (sym messages-nil);
-  waiting = ws ∙ ap (map (notice_kept [])) (sym waiting-nil);
-  deals = ds ∙ sym deals-nil;
-  outbox = es ∙ sym outbox-nil;
-  off = off ∙ nothing_off;
-  live = live ∙ nothing_cleared;
-}
-  where
-    nothing_set : (n : ℕ) → preferred_in [] n ≡ default_preferred
-    nothing_set zero = refl
-    nothing_set (suc n) = refl
-
-    no_set : (n : ℕ) (u : UserId) → has_in [] n u ≡ false
-    no_set zero u = refl
-    no_set (suc n) u = refl

@@ -1,39 +1,32 @@
 -- Which of the notices that wait an event turns or cancels.
-use Rattle.std.proofs.Common.{◌≡◌, ℕ, Bool, true, false, ◌&&◌, ◌==◌, cond, not, List, [], ◌∷◌, length, refl, sym, ap, ◌∙◌}
+use Rattle.std.proofs.Common.{◌≡◌, ℕ, Bool, true, false, ◌&&◌, cond, not, List, [], ◌∷◌, length, refl, sym, ap, ◌∙◌}
 use Rattle.std.specs.Prelude.{Option, Some, None, option_map, is_some, filter, if◌then◌else◌}
 use Rattle.std.specs.List.{AllByRecursion}
 use Rattle.std.proofs.lemmas.List.{length-map}
-use Rattle.std.proofs.Math.Bool.{and-true, and-false}
+use Rattle.std.proofs.Math.Bool.{and-false}
 use Rattle.chat_model.specs.declared.event.Stamped.{Stamped}
-use Rattle.chat_model.specs.declared.event.Event.TheVariants.{Absorbed, MailTurn}
+use Rattle.chat_model.specs.declared.event.Event.TheVariants.{Absorbed}
 use Rattle.chat_model.specs.declared.deal.Outcome.TheVariants.{Cleared}
 use Rattle.chat_model.specs.declared.deal.QueueId.{QueueId}
 use Rattle.chat_model.specs.declared.ids.DealNo.{DealNo}
 use Rattle.chat_model.specs.declared.ids.UserId.{UserId}
 use Rattle.chat_model.specs.declared.row.Cause.TheVariants.{SwitchedOff}
-use Rattle.chat_model.specs.declared.trigger.Way.{Way}
-use Rattle.chat_model.specs.declared.trigger.Way.TheVariants.{Mail, Push}
 use Rattle.chat_model.specs.Outcomes.{has_deal}
 use Rattle.notice_ledger.specs.declared.accounts.Account.{Account}
 use Rattle.notice_ledger.specs.declared.accounts.Account.TheVariants.{Handed, Cancelled, LiveQueue}
 use Rattle.notice_ledger.specs.declared.accounts.Account.TheVariants as account
 use Rattle.notice_ledger.specs.Past.Journal.{Occurrence, occurrence}
-use Rattle.notice_ledger.specs.Past.Owed.{Notice, same_way, pushes_online, readies, clears, ready, was_cleared, was_dealt, turn, decided, account_by, is_pending, waiting, is_turn_of, switch_on, account_of}
+use Rattle.notice_ledger.specs.Past.Owed.{Notice, pushes_online, readies, clears, ready, was_cleared, was_dealt, turn, decided, account_by, is_pending, waiting, switch_on, account_of}
 use Rattle.notice_ledger.specs.Past.Audit.{same_account}
 use Rattle.notice_ledger.proofs.Audited.{is_cleared_now}
 use Rattle.notice_ledger.proofs.Standing.{is_turn, is_readying, is_dealing, moved_by, account_of-plain}
 use Rattle.notice_ledger.proofs.Waiting.{waiting-pending}
 use Rattle.book_tables.specs.Applied.{is_cleared}
-use Rattle.book_tables.specs.Notices.{is_ready_standing, is_named}
-use Rattle.book_tables.specs.Tables.{standing_by, notice_kept}
+use Rattle.book_tables.specs.Notices.{is_ready_stage, is_named}
+use Rattle.book_tables.specs.Tables.{stage_by, notice_kept}
 use Rattle.book_tables.proofs.Kept.{filter-kept}
 use Rattle.book_tables.proofs.Moves.{swapped, never_turn}
 use Rattle.book_tables.proofs.RowsAfter.{all_kept}
-
--- a mail notice of a user has its turn at the user's mail turn
-pub turn_of_mail : (u v : UserId) (w : Way) → (v.0 == u.0 && same_way w Mail) ≡ is_turn_of v w (MailTurn u)
-turn_of_mail u v Mail = and-true (v.0 == u.0) ∙ swapped v.0 u.0
-turn_of_mail u v Push = and-false (v.0 == u.0)
 
 -- an event that clears nothing clears none of the pending notices
 pub none_cleared_now : (j : List Stamped) (s : Stamped) → ((u : UserId) (k : DealNo) → clears u k s.event ≡ false) → (ns : List Notice) → AllByRecursion (λ n. is_pending (account_of j n) ≡ true) ns → length (filter (is_cleared_now j s) ns) ≡ 0
@@ -76,7 +69,7 @@ cleared_so j at u deals q =
     none_ready false n = refl
 
     by : (n : Notice) (m : Bool) (t r : Option Occurrence) (c d : Bool) → is_pending (account_by (option_map (decided n) t) None (is_some r) c d) ≡ true
-        → (m && not (is_ready_standing (standing_by d (option_map (λ o. o.at) r)))) ≡ same_account (moved_by false false m false (decided n (occurrence j (record { at = at; event = Absorbed (Cleared u deals q) }))) (account_by (option_map (decided n) t) None (is_some r) c d)) LiveQueue
+        → (m && not (is_ready_stage (stage_by d (is_some r)))) ≡ same_account (moved_by false false m false (decided n (occurrence j (record { at = at; event = Absorbed (Cleared u deals q) }))) (account_by (option_map (decided n) t) None (is_some r) c d)) LiveQueue
     by n m (Some x) r c d h = absurd (was_decided (switch_on x.past n.user n.way) h)
     by n m None (Some o) c d h = and-false m
     by n m None None true d h = absurd (cc)

@@ -1,14 +1,15 @@
 -- What a message owes and what a turn makes, of tables that hold what the events before leave.
-use Rattle.std.proofs.Common.{◌≡◌, ℕ, ◌+◌, Bool, true, false, ◌&&◌, ◌||◌, cond, not, List, [], ◌∷◌, ◌++◌, length, map, refl, sym, ap, ◌∙◌, subst, arith, length-append}
-use Rattle.std.specs.Prelude.{Option, Some, None, option_map, option_to_list, filter, if◌then◌else◌}
+use Rattle.std.proofs.Common.{◌≡◌, ℕ, ◌+◌, Bool, true, false, ◌&&◌, ◌||◌, cond, not, List, [], ◌∷◌, ◌++◌, length, map, refl, sym, ap, ◌∙◌, subst, length-append}
+use Rattle.std.specs.Prelude.{Option, Some, None, option_map, option_to_list, filter, IsPermutation, if◌then◌else◌}
 use Rattle.std.specs.Option.{option_map_or}
-use Rattle.std.specs.List.{filter_map, flat_map, cons_option}
-use Rattle.std.proofs.lemmas.List.{length-map, map-append, append-nil, append_assoc}
+use Rattle.std.specs.List.{AllByRecursion, filter_map, flat_map, cons_option}
+use Rattle.std.proofs.lemmas.List.{append-nil, append_assoc}
 use Rattle.chat_model.specs.declared.event.Stamped.{Stamped}
 use Rattle.chat_model.specs.declared.event.Event.TheVariants.{Restart, Asked, Absorbed, MailTurn}
 use Rattle.chat_model.specs.declared.request.Request.TheVariants.{AddUser, AddGroup, Member, AddChannel, Subscribe, Set, SetChannel, SetPolicy, Mute, Send, Direct}
 use Rattle.chat_model.specs.declared.ids.UserId.{UserId}
 use Rattle.chat_model.specs.declared.ids.ChannelId.{ChannelId}
+use Rattle.chat_model.specs.declared.ids.MessageId.{MessageId}
 use Rattle.chat_model.specs.declared.ids.GroupId.{GroupId}
 use Rattle.chat_model.specs.declared.entry.Entry.{Entry}
 use Rattle.chat_model.specs.declared.row.Row.TheVariants as row
@@ -27,21 +28,23 @@ use Rattle.notice_ledger.specs.declared.destination.Destination.TheVariants as d
 use Rattle.notice_ledger.specs.Past.Journal.{occurrence}
 use Rattle.notice_ledger.specs.Past.Values.{numbered, Person, person, people, settings, is_one_of, users, SentMessage, message_of, sent_by, messages, deal_count}
 use Rattle.notice_ledger.specs.Past.Triggers.{is_recipient, is_direct, is_participant_of, mentions_of, came_by, facts_of, trigger}
-use Rattle.notice_ledger.specs.Past.Owed.{Notice, same_way, waiting, notice_of, owed_of, owed_by, switch_on}
+use Rattle.notice_ledger.specs.Past.Owed.{Notice, same_way, waiting, notice_of, owed_of, owed_by, account_of, is_pending}
 use Rattle.notice_ledger.specs.Past.Due.{batch_rows}
-use Rattle.notice_ledger.specs.Past.Outbox.{outbox, mailed, mail_entry, mail_entries, by_message}
+use Rattle.notice_ledger.specs.Past.Outbox.{outbox, mail_entries}
 use Rattle.notice_ledger.specs.Past.Rows.{outbox_rows_from, rows}
 use Rattle.notice_ledger.proofs.Appended.{outbox-append}
-use Rattle.notice_ledger.proofs.Batches.{is_ready_mail_of, by_message-mailed, batch_rows-waiting}
-use Rattle.notice_ledger.proofs.Sent.{IsOfMessage}
+use Rattle.notice_ledger.proofs.Batches.{is_ready_mail_of, batch_rows-waiting}
+use Rattle.notice_ledger.proofs.Sent.{IsOfMessage, waiting-messages}
+use Rattle.notice_ledger.proofs.Waiting.{waiting-pending}
+use Rattle.mail_batches.specs.Batches.{rows_of}
 use Rattle.book_tables.specs.declared.tables.Message.{Message}
 use Rattle.book_tables.specs.declared.tables.Waiting.{Waiting}
 use Rattle.book_tables.specs.declared.tables.Tables.{Tables}
-use Rattle.book_tables.specs.declared.tables.Standing.TheVariants.{Flight}
+use Rattle.chat_model.specs.declared.row.Stage.TheVariants.{Flight}
 use Rattle.book_tables.specs.Notices.{is_undecided, is_undecided_of, is_ready_mail_to, named_by, readied, dealt_to}
 use Rattle.book_tables.proofs.NewRows.{changes_with}
 use Rattle.book_tables.proofs.RowsAfter.{all_kept, MakesPending, rows-append}
-use Rattle.book_tables.proofs.RowSteps.{makes_left, makes_start, makes_mails, makes_dealt, makes_cleared, makes_missed}
+use Rattle.book_tables.proofs.RowSteps.{makes_left, makes_start, makes_taken, makes_dealt, makes_cleared, makes_missed}
 use Rattle.chat_model.specs.declared.deal.Outcome.TheVariants.{Dealt, Cleared, Missed}
 use Rattle.chat_model.specs.declared.deal.QueueId.{QueueId}
 use Rattle.chat_model.specs.declared.deal.UserVerdict.{UserVerdict}
@@ -50,14 +53,22 @@ use Rattle.chat_model.specs.declared.request.Request.{Request}
 use Rattle.chat_model.specs.declared.row.RowChange.{RowChange}
 use Rattle.chat_model.specs.Outcomes.{gives_idle, gives_live}
 use Rattle.chat_model.specs.Rows.{changed_all}
-use Rattle.book_tables.specs.Tables.{Holds, message_kept, in_flight, request_to, send_of, sent_after, owed_user, switched_at}
+use Rattle.book_tables.specs.Tables.{Holds, message_kept, notice_kept, in_flight, request_to, send_of, sent_after, owed_user}
 use Rattle.book_tables.specs.Preferences.{Preferred, preferred, default_preferred, preferred_in}
 use Rattle.book_tables.proofs.PreferenceLemmas.{past_end}
 use Rattle.book_tables.specs.declared.prepared.Effect.{Effect}
-use Rattle.book_tables.specs.Prepared.{notice_row, puts_where, removes_where, IsSendOf, IsEffectOf}
+use Rattle.book_tables.specs.Prepared.{notice_row, puts_where, removes_where, removed_mail, IsSendOf, IsEffectOf}
 use Rattle.book_tables.proofs.Numbered.{numbered-map}
-use Rattle.book_tables.proofs.Steps.{filter-push, map-flat_map}
+use Rattle.book_tables.proofs.Steps.{map-flat_map}
+use Rattle.book_tables.proofs.Kept.{mail-kept, messages-kept}
+use Rattle.book_tables.proofs.Permuted.{IsMadeOf, made_of, all-moved, Has, has-all, has-map}
 use Rattle.book_tables.proofs.Standing.{names_long, messages_long, messages_dealt}
+
+-- a batch row as it is found among the notices that wait and the messages
+pub record IsRow (past : List Stamped) (ws : List Waiting) (u : UserId) (n : Notice) : Type 0 where
+  pub waits : Has (notice_kept past n) ws
+  pub ready_mail : is_ready_mail_to u (notice_kept past n) ≡ true
+  pub message : (ms : List Message) → ms ≡ map message_kept (messages past) → numbered n.number.0 ms ≡ Some (message_kept n.message)
 
 -- ---- whom a message notifies
 
@@ -144,7 +155,7 @@ module _ (t : Tables) (past : List Stamped) (holds : Holds t past) where
 
   -- the notice of a trigger
   pub notice-kept : (at : ℕ) (k : Message) (u : UserId) (w : Way) (found : Option Trigger) (made : Trigger → Waiting) → found ≡ trigger past (sent_after past k) k.text u w
-      → ((tr : Trigger) → made tr ≡ record { user = u; message = record { 0 = length t.messages.items + 1 }; way = w; trigger = tr; via = came_by past k.text u tr; deal = record { 0 = length t.messages.items }; online = same_way w Push && (settings past u).push_online; standing = Flight })
+      → ((tr : Trigger) → made tr ≡ record { user = u; message = record { 0 = length t.messages.items + 1 }; way = w; trigger = tr; via = came_by past k.text u tr; deal = record { 0 = length t.messages.items }; online = same_way w Push && (settings past u).push_online; stage = Flight })
       → option_map made found ≡ owed_way past at k u w
   notice-kept at k u w found made same is = by found ∙ ap (λ o. option_map in_flight (noticed o)) same
     where
@@ -161,7 +172,7 @@ module _ (t : Tables) (past : List Stamped) (holds : Holds t past) where
       } in n) o
 
       numbered_so : ℕ → ℕ → Trigger → Waiting
-      numbered_so number deal tr = record { user = u; message = record { 0 = number + 1 }; way = w; trigger = tr; via = came_by past k.text u tr; deal = record { 0 = deal }; online = same_way w Push && (settings past u).push_online; standing = Flight }
+      numbered_so number deal tr = record { user = u; message = record { 0 = number + 1 }; way = w; trigger = tr; via = came_by past k.text u tr; deal = record { 0 = deal }; online = same_way w Push && (settings past u).push_online; stage = Flight }
 
       by : (o : Option Trigger) → option_map made o ≡ option_map in_flight (noticed o)
       by None = refl
@@ -177,26 +188,30 @@ module _ (t : Tables) (past : List Stamped) (holds : Holds t past) where
 
   -- ---- the entries of a turn
 
-  -- a waiting notice's message is there
-  pub message-there : (n : Notice) → IsOfMessage past n → numbered n.number.0 t.messages.items ≡ Some (message_kept n.message)
-  message-there n of = ap (numbered n.number.0) holds.messages ∙ (numbered-map message_kept n.number.0 (messages past) ∙ ap (option_map message_kept) of)
+  -- the user's rows are the messages of these notices
+  pub in_rows : (u : UserId) → IsMadeOf (λ (n : Notice). n.number) (batch_rows past u) (rows_of t.batches u)
+  in_rows u = made_of (λ (n : Notice). n.number) (batch_rows past u) (rows_of t.batches u) (holds.batches.rows u)
 
-  -- one more notice, which makes an entry
-  pub entries-push : (at : ℕ) (u : UserId) (ns : List Notice) (n : Notice) (e : Entry) → is_ready_mail_of past u n ≡ true → e ≡ mail_entry past at n
-      → map (mail_entry past at) (filter (is_ready_mail_of past u) ns) ++ e ∷ [] ≡ map (mail_entry past at) (filter (is_ready_mail_of past u) (ns ++ n ∷ []))
-  entries-push at u ns n e mail is =
-      ap (λ x. map (mail_entry past at) (filter (is_ready_mail_of past u) ns) ++ x ∷ []) is
-      ∙ (sym (map-append (mail_entry past at) (filter (is_ready_mail_of past u) ns) (n ∷ []))
-      ∙ ap (map (mail_entry past at)) (ap (λ b. filter (is_ready_mail_of past u) ns ++ cond b (n ∷ []) []) (sym mail) ∙ sym (filter-push (is_ready_mail_of past u) ns n)))
-
-  -- one more notice, which makes none
-  pub entries-left : (at : ℕ) (u : UserId) (ns : List Notice) (n : Notice) → is_ready_mail_of past u n ≡ false → map (mail_entry past at) (filter (is_ready_mail_of past u) ns) ≡ map (mail_entry past at) (filter (is_ready_mail_of past u) (ns ++ n ∷ []))
-  entries-left at u ns n other =
-      ap (map (mail_entry past at)) (sym (filter-push (is_ready_mail_of past u) ns n ∙ (ap (λ b. filter (is_ready_mail_of past u) ns ++ cond b (n ∷ []) []) other ∙ append-nil (filter (is_ready_mail_of past u) ns))))
-
-  -- the entries are those of the notices that the turn hands over
-  pub entries-turn : (at : ℕ) (u : UserId) → map (mail_entry past at) (filter (is_ready_mail_of past u) (waiting past)) ≡ map (mail_entry past at) (by_message (mailed past u))
-  entries-turn at u = ap (map (mail_entry past at)) (sym (by_message-mailed past u))
+  -- each of them is found among those that wait by its message, and its message is there
+  pub each-row : (u : UserId) → AllByRecursion (IsRow past t.waiting.items u) (in_rows u).of
+  each-row u =
+      all-moved (IsRow past t.waiting.items u) (batch_rows past u) (in_rows u).of (in_rows u).moved
+      (subst (λ (ns : List Notice). AllByRecursion (IsRow past t.waiting.items u) ns) (sym (batch_rows-waiting past u)) (among (waiting past) (has-all (waiting past)) (waiting-pending past) (waiting-messages past)))
+    where
+      among : (ns : List Notice) → AllByRecursion (λ n. Has n (waiting past)) ns → AllByRecursion (λ n. is_pending (account_of past n) ≡ true) ns → AllByRecursion (IsOfMessage past) ns → AllByRecursion (IsRow past t.waiting.items u) (filter (is_ready_mail_of past u) ns)
+      among [] has pending of = tt
+      among (n ∷ ns) has pending of = by (is_ready_mail_of past u n) refl (among ns has.1 pending.1 of.1)
+        where
+          by : (b : Bool) → is_ready_mail_of past u n ≡ b → AllByRecursion (IsRow past t.waiting.items u) (filter (is_ready_mail_of past u) ns) → AllByRecursion (IsRow past t.waiting.items u) (cond b (n ∷ filter (is_ready_mail_of past u) ns) (filter (is_ready_mail_of past u) ns))
+          by true e rest = (
+            record {
+              waits = subst (Has (notice_kept past n)) (sym holds.waiting) (has-map (notice_kept past) n (waiting past) has.0);
+              ready_mail = mail-kept u past n pending.0 ∙ e;
+              message = λ ms same. ap (numbered n.number.0) same ∙ (numbered-map message_kept n.number.0 (messages past) ∙ ap (option_map message_kept) of.0);
+            },
+            rest,
+          )
+          by false e rest = rest
 
   -- ---- the changes of the rows
 
@@ -236,16 +251,16 @@ module _ (t : Tables) (past : List Stamped) (holds : Holds t past) where
   kept_there : (f : List Waiting → List RowChange) → f t.waiting.items ≡ f (all_kept past)
   kept_there f = ap f holds.waiting
 
-  pub changes-start : (at : ℕ) → changed_all (puts_where is_undecided (readied at) t.waiting.items) (rows past) ≡ rows (past ++ record { at = at; event = Restart } ∷ [])
+  pub changes-start : (at : ℕ) → changed_all (puts_where is_undecided readied t.waiting.items) (rows past) ≡ rows (past ++ record { at = at; event = Restart } ∷ [])
   changes-start at =
-      made (record { at = at; event = Restart }) (puts_where is_undecided (readied at) (all_kept past)) (makes_start past at) (puts_where is_undecided (readied at) t.waiting.items)
-      (kept_there (puts_where is_undecided (readied at)) ∙ sym (append-nil (puts_where is_undecided (readied at) (all_kept past))))
+      made (record { at = at; event = Restart }) (puts_where is_undecided readied (all_kept past)) (makes_start past at) (puts_where is_undecided readied t.waiting.items)
+      (kept_there (puts_where is_undecided readied) ∙ sym (append-nil (puts_where is_undecided readied (all_kept past))))
 
   pub changes-dealt : (at : ℕ) (k : DealNo) (verdicts : List UserVerdict) (idle live : List UserId) → ((u : UserId) → is_one_of idle u ≡ gives_idle verdicts u) → ((u : UserId) → is_one_of live u ≡ gives_live verdicts u)
-      → changed_all (puts_where (is_undecided_of k) (dealt_to at idle live) t.waiting.items) (rows past) ≡ rows (past ++ record { at = at; event = Absorbed (Dealt k verdicts) } ∷ [])
+      → changed_all (puts_where (is_undecided_of k) (dealt_to idle live) t.waiting.items) (rows past) ≡ rows (past ++ record { at = at; event = Absorbed (Dealt k verdicts) } ∷ [])
   changes-dealt at k verdicts idle live are_idle are_live =
-      made (record { at = at; event = Absorbed (Dealt k verdicts) }) (puts_where (is_undecided_of k) (dealt_to at idle live) (all_kept past)) (makes_dealt past at k verdicts idle live are_idle are_live) (puts_where (is_undecided_of k) (dealt_to at idle live) t.waiting.items)
-      (kept_there (puts_where (is_undecided_of k) (dealt_to at idle live)) ∙ sym (append-nil (puts_where (is_undecided_of k) (dealt_to at idle live) (all_kept past))))
+      made (record { at = at; event = Absorbed (Dealt k verdicts) }) (puts_where (is_undecided_of k) (dealt_to idle live) (all_kept past)) (makes_dealt past at k verdicts idle live are_idle are_live) (puts_where (is_undecided_of k) (dealt_to idle live) t.waiting.items)
+      (kept_there (puts_where (is_undecided_of k) (dealt_to idle live)) ∙ sym (append-nil (puts_where (is_undecided_of k) (dealt_to idle live) (all_kept past))))
 
   pub changes-cleared : (at : ℕ) (u : UserId) (deals : List DealNo) (q : QueueId)
       → changed_all (flat_map (λ test. removes_where test t.waiting.items) (named_by u deals)) (rows past) ≡ rows (past ++ record { at = at; event = Absorbed (Cleared u deals q) } ∷ [])
@@ -254,9 +269,9 @@ module _ (t : Tables) (past : List Stamped) (holds : Holds t past) where
       made (record { at = at; event = Absorbed (Cleared u deals q) }) (f (all_kept past)) (makes_cleared past at u deals q) (f t.waiting.items) (kept_there f ∙ sym (append-nil (f (all_kept past))))
 
   pub changes-missed : (at : ℕ) (u : UserId) (deals : List DealNo)
-      → changed_all (flat_map (λ test. puts_where test (readied at) t.waiting.items) (named_by u deals)) (rows past) ≡ rows (past ++ record { at = at; event = Absorbed (Missed u deals) } ∷ [])
+      → changed_all (flat_map (λ test. puts_where test readied t.waiting.items) (named_by u deals)) (rows past) ≡ rows (past ++ record { at = at; event = Absorbed (Missed u deals) } ∷ [])
   changes-missed at u deals =
-      let f = λ (ws : List Waiting). flat_map (λ test. puts_where test (readied at) ws) (named_by u deals) in
+      let f = λ (ws : List Waiting). flat_map (λ test. puts_where test readied ws) (named_by u deals) in
       made (record { at = at; event = Absorbed (Missed u deals) }) (f (all_kept past)) (makes_missed past at u deals) (f t.waiting.items) (kept_there f ∙ sym (append-nil (f (all_kept past))))
 
   -- a user who isn't there has set nothing
@@ -301,22 +316,14 @@ module _ (t : Tables) (past : List Stamped) (holds : Holds t past) where
           (ap (λ cs. Put (row.Message (record { 0 = length (messages past) + 1 }) sender text false) ∷ cs) (sym (append-nil new)))
 
   pub changes-mails : (at : ℕ) (user : UserId) (n : ℕ) (es : List Entry) → n ≡ length t.outbox.items → es ≡ mail_entries past at user
-      → changed_all (removes_where (is_ready_mail_to user) t.waiting.items ++ map Put (outbox_rows_from (n + 1) es)) (rows past) ≡ rows (past ++ record { at = at; event = MailTurn user } ∷ [])
+      → changed_all (map (removed_mail user) (rows_of t.batches user) ++ map Put (outbox_rows_from (n + 1) es)) (rows past) ≡ rows (past ++ record { at = at; event = MailTurn user } ∷ [])
   changes-mails at user n es many are =
-      made (record { at = at; event = MailTurn user }) (removes_where (is_ready_mail_to user) (all_kept past)) (makes_mails past at user) (removes_where (is_ready_mail_to user) t.waiting.items ++ map Put (outbox_rows_from (n + 1) es))
-      (ap (λ cs. cs ++ map Put (outbox_rows_from (n + 1) es)) (kept_there (removes_where (is_ready_mail_to user)))
-      ∙ (ap (λ n. removes_where (is_ready_mail_to user) (all_kept past) ++ map Put (outbox_rows_from (n + 1) es)) (many ∙ ap length holds.outbox)
-      ∙ ap (λ es. removes_where (is_ready_mail_to user) (all_kept past) ++ map Put (outbox_rows_from (length (outbox past) + 1) es)) are))
-
--- each batch row is an entry or switched off
-pub mail_entries-long : (past : List Stamped) (at : ℕ) (u : UserId) → length (mail_entries past at u) + switched_at past u ≡ length (batch_rows past u)
-mail_entries-long past at u =
-    let many = ap length (by_message-mailed past u ∙ sym (batch_rows-waiting past u)) in
-    by (switch_on past u Mail) (length-map (by_message (mailed past u)) (mail_entry past at) ∙ many)
-  where
-    by : (on : Bool) → length (map (mail_entry past at) (by_message (mailed past u))) ≡ length (batch_rows past u) → length (if on then map (mail_entry past at) (by_message (mailed past u)) else []) + (if on then 0 else length (batch_rows past u)) ≡ length (batch_rows past u)
-    by true e = omega arith
-    by false e = omega arith
+      let gone = map (removed_mail user) (rows_of t.batches user) in
+      made (record { at = at; event = MailTurn user }) gone
+      (makes_taken past at user (rows_of t.batches user) (subst (λ (ms : List MessageId). IsPermutation ms (rows_of t.batches user)) (sym (messages-kept user past)) (holds.batches.rows user)))
+      (gone ++ map Put (outbox_rows_from (n + 1) es))
+      (ap (λ n. gone ++ map Put (outbox_rows_from (n + 1) es)) (many ∙ ap length holds.outbox)
+      ∙ ap (λ es. gone ++ map Put (outbox_rows_from (length (outbox past) + 1) es)) are)
 
 -- a mail turn adds its entries to the outbox
 pub outbox-mails : (past : List Stamped) (at : ℕ) (u : UserId) → length (outbox (past ++ record { at = at; event = MailTurn u } ∷ [])) ≡ length (outbox past) + length (mail_entries past at u)

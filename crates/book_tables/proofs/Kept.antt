@@ -1,7 +1,7 @@
--- What is kept of a notice that waits, by the definitions of the journal: its stage, its stamp, and the batch rows.
-use Rattle.std.proofs.Common.{◌≡◌, ℕ, ◌≤◌, ◌+◌, not, Bool, true, false, ◌&&◌, ◌==◌, cond, List, [], ◌∷◌, Option, Some, None, length, map, filter, refl, sym, ap, ◌∙◌, arith}
+-- What is kept of a notice that waits, by the definitions of the journal: its stage, and the batch rows.
+use Rattle.std.proofs.Common.{◌≡◌, ◌≤◌, ◌+◌, not, Bool, true, false, ◌&&◌, ◌==◌, cond, List, [], ◌∷◌, Option, Some, None, length, map, filter, refl, sym, ap, ◌∙◌, arith}
 use Rattle.std.specs.Prelude.{option_map, is_some, count_by, if◌then◌else◌}
-use Rattle.std.specs.List.{AllByRecursion, filter_map, cons_option}
+use Rattle.std.specs.List.{AllByRecursion}
 use Rattle.std.proofs.lemmas.List.{length-map}
 use Rattle.std.proofs.lemmas.List.Sums.{length-filter}
 use Rattle.chat_model.specs.declared.event.Stamped.{Stamped}
@@ -19,13 +19,11 @@ use Rattle.notice_ledger.specs.Past.Due.{batch_rows}
 use Rattle.notice_ledger.specs.Past.Audit.{same_account}
 use Rattle.notice_ledger.proofs.Batches.{is_ready_mail_of, batch_rows-waiting}
 use Rattle.notice_ledger.proofs.Standing.{account_of-plain}
-use Rattle.notice_ledger.proofs.Stamps.{ready_stamp}
 use Rattle.notice_ledger.proofs.Waiting.{waiting-pending}
-use Rattle.book_tables.specs.declared.tables.Standing.{Standing}
-use Rattle.book_tables.specs.declared.tables.Standing.TheVariants.{Flight, Held, Ready}
 use Rattle.book_tables.specs.declared.tables.Waiting.{Waiting}
-use Rattle.book_tables.specs.Notices.{rank, is_ready_standing, is_mail_to, is_ready_mail_to, since, stage_by, same_stage, is_at_stage}
-use Rattle.book_tables.specs.Tables.{standing_by, notice_kept}
+use Rattle.book_tables.specs.Notices.{rank, is_ready_stage, is_ready_mail_to, same_stage, is_at_stage}
+use Rattle.book_tables.specs.Batched.{messages_to}
+use Rattle.book_tables.specs.Tables.{stage_by, notice_kept}
 
 -- the account at a stage
 abbrev pub account_at : Stage → Account
@@ -38,7 +36,7 @@ was_decided true h = cc
 was_decided false h = cc
 
 one_stage : (g : Stage) (n : Notice) (t r : Option Occurrence) (c d : Bool) → is_pending (account_by (option_map (decided n) t) None (is_some r) c d) ≡ true
-    → same_stage (stage_by (standing_by d (option_map (λ o. o.at) r))) g ≡ same_account (account_by (option_map (decided n) t) None (is_some r) c d) (account_at g)
+    → same_stage (stage_by d (is_some r)) g ≡ same_account (account_by (option_map (decided n) t) None (is_some r) c d) (account_at g)
 one_stage g n (Some x) r c d h = absurd (was_decided (switch_on x.past n.user n.way) h)
 one_stage stage.Flight n None (Some o) c d h = refl
 one_stage stage.Held n None (Some o) c d h = refl
@@ -57,10 +55,10 @@ stage-kept g j n h =
     one_stage g n (turn j n) (ready j n) (was_cleared j n) (was_dealt j n) (ap is_pending (sym (account_of-plain j n)) ∙ h)
     ∙ ap (λ a. same_account a (account_at g)) (sym (account_of-plain j n))
 
-ready-stage : (g : Standing) → is_ready_standing g ≡ same_stage (stage_by g) stage.Ready
-ready-stage Flight = refl
-ready-stage Held = refl
-ready-stage (Ready since) = refl
+ready-stage : (g : Stage) → is_ready_stage g ≡ same_stage g stage.Ready
+ready-stage stage.Flight = refl
+ready-stage stage.Held = refl
+ready-stage stage.Ready = refl
 
 mail_way : (way : Way) → (rank way == 0) ≡ same_way way Mail
 mail_way Mail = refl
@@ -68,7 +66,7 @@ mail_way Push = refl
 
 pub mail-kept : (u : UserId) (j : List Stamped) (n : Notice) → is_pending (account_of j n) ≡ true → is_ready_mail_to u (notice_kept j n) ≡ is_ready_mail_of j u n
 mail-kept u j n h =
-    (λ i. (n.user.0 == u.0 && mail_way n.way i) && (ready-stage (standing_by (was_dealt j n) (option_map (λ o. o.at) (ready j n))) ∙ stage-kept stage.Ready j n h) i)
+    (λ i. (n.user.0 == u.0 && mail_way n.way i) && (ready-stage (stage_by (was_dealt j n) (is_some (ready j n))) ∙ stage-kept stage.Ready j n h) i)
 
 pub filter-kept : (p : Waiting → Bool) (q : Notice → Bool) (j : List Stamped) → ((n : Notice) → is_pending (account_of j n) ≡ true → p (notice_kept j n) ≡ q n) → (ns : List Notice) → AllByRecursion (λ n. is_pending (account_of j n) ≡ true) ns → filter p (map (notice_kept j) ns) ≡ map (notice_kept j) (filter q ns)
 filter-kept p q j same [] all = refl
@@ -80,10 +78,16 @@ filter-kept p q j same (n ∷ ns) all =
     by false = refl
 
 -- the mails of a user that are ready are the batch rows
-pub mails-kept : (u : UserId) (j : List Stamped) → length (filter (is_ready_mail_to u) (map (notice_kept j) (waiting j))) ≡ length (batch_rows j u)
-mails-kept u j =
-    ap length (filter-kept (is_ready_mail_to u) (is_ready_mail_of j u) j (mail-kept u j) (waiting j) (waiting-pending j))
-    ∙ (length-map (filter (is_ready_mail_of j u) (waiting j)) (notice_kept j) ∙ ap length (sym (batch_rows-waiting j u)))
+pub mails-kept : (u : UserId) (j : List Stamped) → filter (is_ready_mail_to u) (map (notice_kept j) (waiting j)) ≡ map (notice_kept j) (batch_rows j u)
+mails-kept u j = filter-kept (is_ready_mail_to u) (is_ready_mail_of j u) j (mail-kept u j) (waiting j) (waiting-pending j) ∙ ap (map (notice_kept j)) (sym (batch_rows-waiting j u))
+
+-- and their messages
+pub messages-kept : (u : UserId) (j : List Stamped) → messages_to u (map (notice_kept j) (waiting j)) ≡ map (λ n. n.number) (batch_rows j u)
+messages-kept u j = ap (map (λ (w : Waiting). w.message)) (mails-kept u j) ∙ numbers (batch_rows j u)
+  where
+    numbers : (ns : List Notice) → map (λ (w : Waiting). w.message) (map (notice_kept j) ns) ≡ map (λ n. n.number) ns
+    numbers [] = refl
+    numbers (n ∷ ns) = ap (λ ms. n.number ∷ ms) (numbers ns)
 
 -- how many wait at a stage
 pub stages-kept : (g : Stage) (j : List Stamped) → length (filter (is_at_stage g) (map (notice_kept j) (waiting j))) ≡ count_by (λ n. same_account (account_of j n) (account_at g)) (waiting j)
@@ -107,36 +111,3 @@ filter-both p (w ∷ ws) = by (p w) (filter-both p ws)
     by : (b : Bool) → length (filter p ws) + length (filter (λ w. not (p w)) ws) ≡ length ws → length (cond b (w ∷ filter p ws) (filter p ws)) + length (cond (not b) (w ∷ filter (λ w. not (p w)) ws) (filter (λ w. not (p w)) ws)) ≡ length (w ∷ ws)
     by true e = omega arith
     by false e = omega arith
-
--- ---- stamps
-
--- the stamp of the event that made a mail notice of the user ready
-abbrev pub ready_mail : UserId → Waiting → Option ℕ
-ready_mail u w = if is_mail_to u w then since w.standing else None
-
-one_stamp : (n : Notice) (m : Bool) (t r : Option Occurrence) (c d : Bool) → is_pending (account_by (option_map (decided n) t) None (is_some r) c d) ≡ true
-    → (if m then since (standing_by d (option_map (λ o. o.at) r)) else None) ≡ cond (m && same_account (account_by (option_map (decided n) t) None (is_some r) c d) account.Ready) (option_map (λ o. o.at) r) None
-one_stamp n m (Some x) r c d h = absurd (was_decided (switch_on x.past n.user n.way) h)
-one_stamp n true None (Some o) c d h = refl
-one_stamp n false None (Some o) c d h = refl
-one_stamp n m None None true d h = absurd (cc)
-one_stamp n true None None false true h = refl
-one_stamp n true None None false false h = refl
-one_stamp n false None None false d h = refl
-
-stamp-kept : (u : UserId) (j : List Stamped) (n : Notice) → is_pending (account_of j n) ≡ true → ready_mail u (notice_kept j n) ≡ cond (is_ready_mail_of j u n) (ready_stamp j n) None
-stamp-kept u j n h =
-    one_stamp n (n.user.0 == u.0 && rank n.way == 0) (turn j n) (ready j n) (was_cleared j n) (was_dealt j n) (ap is_pending (sym (account_of-plain j n)) ∙ h)
-    ∙ (λ i. cond ((n.user.0 == u.0 && mail_way n.way i) && same_account (sym (account_of-plain j n) i) account.Ready) (ready_stamp j n) None)
-
--- the stamps of a user's ready mails are those of the batch rows
-pub stamps-kept : (u : UserId) (j : List Stamped) → filter_map (ready_mail u) (map (notice_kept j) (waiting j)) ≡ filter_map (ready_stamp j) (batch_rows j u)
-stamps-kept u j = each (waiting j) (waiting-pending j) ∙ ap (filter_map (ready_stamp j)) (sym (batch_rows-waiting j u))
-  where
-    by : (n : Notice) (ns : List Notice) (b : Bool) → cons_option (cond b (ready_stamp j n) None) (filter_map (ready_stamp j) ns) ≡ filter_map (ready_stamp j) (cond b (n ∷ ns) ns)
-    by n ns true = refl
-    by n ns false = refl
-
-    each : (ns : List Notice) → AllByRecursion (λ n. is_pending (account_of j n) ≡ true) ns → filter_map (ready_mail u) (map (notice_kept j) ns) ≡ filter_map (ready_stamp j) (filter (is_ready_mail_of j u) ns)
-    each [] all = refl
-    each (n ∷ ns) all = (λ i. cons_option (stamp-kept u j n all.0 i) (each ns all.1 i)) ∙ by n (filter (is_ready_mail_of j u) ns) (is_ready_mail_of j u n)

@@ -1,9 +1,12 @@
 pub mod Steps
 pub mod Numbered
+pub mod Permuted
 pub mod Sought
 pub mod Ordered
 pub mod Moves
 pub mod Kept
+pub mod BatchLooks
+pub mod Readied
 pub mod NewRows
 pub mod UserRows
 pub mod RowMoves
@@ -14,9 +17,11 @@ pub mod UserSets
 pub mod PreferenceLemmas
 pub mod SetSizes
 pub mod Standing
-pub mod Soonest
 pub mod SetPlaces
 pub mod Following
+pub mod BatchesAfter
 pub mod Addressed
 pub mod After
+pub mod Empty
+pub mod Sound
 pub mod RowLists

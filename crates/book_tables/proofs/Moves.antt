@@ -25,57 +25,57 @@ use Rattle.notice_ledger.proofs.Waiting.{IsOwedBy, owed_by-each, owed-last, stay
 use Rattle.notice_ledger.proofs.Waiting as ledger
 use Rattle.std.proofs.lemmas.Bool.Decides.{nat_tests}
 use Rattle.std.proofs.Common.{eqb, arith}
-use Rattle.book_tables.specs.declared.tables.Standing.{Standing}
-use Rattle.book_tables.specs.declared.tables.Standing.TheVariants.{Flight, Held, Ready}
+use Rattle.chat_model.specs.declared.row.Stage.{Stage}
+use Rattle.chat_model.specs.declared.row.Stage.TheVariants.{Flight, Held, Ready}
 use Rattle.book_tables.specs.declared.tables.Waiting.{Waiting}
 use Rattle.book_tables.specs.Notices.{is_ready, is_undecided, is_mail_to, is_ready_mail_to, of_deal, is_named, rank, ready_if, readied, readied_if, dealt_by, dealt_to}
-use Rattle.book_tables.specs.Tables.{standing_by, notice_at, notice_kept, in_flight}
+use Rattle.book_tables.specs.Tables.{stage_by, notice_at, notice_kept, in_flight}
 
 pub swapped : (a b : ℕ) → eqb a b ≡ eqb b a
 swapped a b = grind (arith, nat_tests)
 
 -- ---- one notice
 
--- how far a notice has come after an event at a stamp, none where it waits no more: by whether the event is its turn, makes it
--- ready, clears it and absorbs its deal
-abbrev pub next_by : ℕ → Bool → Bool → Bool → Bool → Standing → Option Standing
-next_by at is_turn readies clears deals (Ready since) = if is_turn then None else Some (Ready since)
-next_by at is_turn readies clears deals Held = if readies then Some (Ready at) else if clears then None else Some Held
-next_by at is_turn readies clears deals Flight = if readies then Some (Ready at) else if clears then None else if deals then Some Held else Some Flight
+-- how far a notice has come after an event, none where it waits no more: by whether the event is its turn, makes it ready,
+-- clears it and absorbs its deal
+abbrev pub next_by : Bool → Bool → Bool → Bool → Stage → Option Stage
+next_by is_turn readies clears deals Ready = if is_turn then None else Some Ready
+next_by is_turn readies clears deals Held = if readies then Some Ready else if clears then None else Some Held
+next_by is_turn readies clears deals Flight = if readies then Some Ready else if clears then None else if deals then Some Held else Some Flight
 
-abbrev standing_next : Stamped → Waiting → Option Standing
-standing_next s w = next_by s.at (is_turn_of w.user w.way s.event) (readies w.user w.deal w.online s.event) (clears w.user w.deal s.event) (absorbs (is_dealt w.deal) s.event) w.standing
+abbrev stage_next : Stamped → Waiting → Option Stage
+stage_next s w = next_by (is_turn_of w.user w.way s.event) (readies w.user w.deal w.online s.event) (clears w.user w.deal s.event) (absorbs (is_dealt w.deal) s.event) w.stage
 
 -- the notice after an event
 abbrev pub step : Stamped → Waiting → Option Waiting
-step s w = option_map (λ g. let v : Waiting = record w { standing = g } in v) (standing_next s w)
+step s w = option_map (λ g. let v : Waiting = record w { stage = g } in v) (stage_next s w)
 
 -- the steps agree with the definitions of the journal
-one_step : (n : Notice) (at : ℕ) (o : Occurrence) (t r : Option Occurrence) (c d tn rd cl dl : Bool) → is_pending (account_by (option_map (decided n) t) None (is_some r) c d) ≡ true → o.at ≡ at
-    → option_map (λ g. notice_at g n) (next_by at tn rd cl dl (standing_by d (option_map (λ o. o.at) r)))
+one_step : (n : Notice) (o : Occurrence) (t r : Option Occurrence) (c d tn rd cl dl : Bool) → is_pending (account_by (option_map (decided n) t) None (is_some r) c d) ≡ true
+    → option_map (λ g. notice_at g n) (next_by tn rd cl dl (stage_by d (is_some r)))
     ≡ cond (is_pending (moved_by tn rd cl dl (decided n o) (account_by (option_map (decided n) t) None (is_some r) c d)))
-    (Some (notice_at (standing_by (d || dl) (option_map (λ o. o.at) (option_or r (cond (rd && not c) (Some o) None)))) n)) None
-one_step n at o (Some x) r c d tn rd cl dl pending same = absurd (was_decided (switch_on x.past n.user n.way) pending)
+    (Some (notice_at (stage_by (d || dl) (is_some (option_or r (cond (rd && not c) (Some o) None)))) n)) None
+one_step n o (Some x) r c d tn rd cl dl pending = absurd (was_decided (switch_on x.past n.user n.way) pending)
   where
     was_decided : (b : Bool) → is_pending (if b then account.Handed else account.Cancelled SwitchedOff) ≡ true → ⊥
     was_decided true h = cc
     was_decided false h = cc
-one_step n at o None (Some y) c d true rd cl dl pending same = by (switch_on o.past n.user n.way)
+one_step n o None (Some y) c d true rd cl dl pending = by (switch_on o.past n.user n.way)
   where
-    by : (b : Bool) → None ≡ cond (is_pending (if b then account.Handed else account.Cancelled SwitchedOff)) (Some (notice_at (Ready y.at) n)) None
+    by : (b : Bool) → None ≡ cond (is_pending (if b then account.Handed else account.Cancelled SwitchedOff)) (Some (notice_at Ready n)) None
     by true = refl
     by false = refl
-one_step n at o None (Some y) c d false rd cl dl pending same = refl
-one_step n at o None None true d tn rd cl dl pending same = absurd (cc)
-one_step n at o None None false true tn true cl dl pending same = ap (λ m. Some (notice_at (Ready m) n)) (sym same)
-one_step n at o None None false true tn false true dl pending same = refl
-one_step n at o None None false true tn false false dl pending same = refl
-one_step n at o None None false false tn true cl dl pending same = ap (λ m. Some (notice_at (Ready m) n)) (sym same)
-one_step n at o None None false false tn false true dl pending same = refl
-one_step n at o None None false false tn false false true pending same = refl
-one_step n at o None None false false tn false false false pending same = refl
+one_step n o None (Some y) c d false rd cl dl pending = refl
+one_step n o None None true d tn rd cl dl pending = absurd (cc)
+one_step n o None None false true tn true cl dl pending = refl
+one_step n o None None false true tn false true dl pending = refl
+one_step n o None None false true tn false false dl pending = refl
+one_step n o None None false false tn true cl dl pending = refl
+one_step n o None None false false tn false true dl pending = refl
+one_step n o None None false false tn false false true pending = refl
+one_step n o None None false false tn false false false pending = refl
 
-named_again : (n : Notice) (g : Standing) (o : Option Standing) → option_map (λ h. let v : Waiting = record (notice_at g n) { standing = h } in v) o ≡ option_map (λ h. notice_at h n) o
+named_again : (n : Notice) (g : Stage) (o : Option Stage) → option_map (λ h. let v : Waiting = record (notice_at g n) { stage = h } in v) o ≡ option_map (λ h. notice_at h n) o
 named_again n g None = refl
 named_again n g (Some h) = refl
 
@@ -83,11 +83,11 @@ kept_step : (j : List Stamped) (s : Stamped) (n : Notice) → n.owing.place < le
 kept_step j s n placed pending =
     let r = ready j n in let c = was_cleared j n in let d = was_dealt j n in let t = turn j n in
     let rd = is_readying s n in
-    named_again n (standing_by d (option_map (λ o. o.at) r)) (next_by s.at (is_turn s n) rd (is_clearing s n) (is_dealing s n) (standing_by d (option_map (λ o. o.at) r)))
-    ∙ (one_step n s.at (occurrence j s) t r c d (is_turn s n) rd (is_clearing s n) (is_dealing s n) (ap is_pending (sym (account_of-plain j n)) ∙ pending) refl
+    named_again n (stage_by d (is_some r)) (next_by (is_turn s n) rd (is_clearing s n) (is_dealing s n) (stage_by d (is_some r)))
+    ∙ (one_step n (occurrence j s) t r c d (is_turn s n) rd (is_clearing s n) (is_dealing s n) (ap is_pending (sym (account_of-plain j n)) ∙ pending)
     ∙ (sym (λ i. cond (is_pending (moved j s n (account_of-plain j n i)))
-    (Some (notice_at (standing_by (d || is_dealing s n) (option_map (λ o. o.at) (option_or r (cond (rd && not c) (Some (occurrence j s)) None)))) n)) None)
-    ∙ sym (λ i. cond (stays j s n) (Some (notice_at (standing_by (was_dealt-append j s n placed i) (option_map (λ o. o.at) (ready-append j s n placed i))) n)) None)))
+    (Some (notice_at (stage_by (d || is_dealing s n) (is_some (option_or r (cond (rd && not c) (Some (occurrence j s)) None)))) n)) None)
+    ∙ sym (λ i. cond (stays j s n) (Some (notice_at (stage_by (was_dealt-append j s n placed i) (is_some (ready-append j s n placed i))) n)) None)))
 
 -- what the event owes is in flight
 new_kept : (j : List Stamped) (s : Stamped) (ns : List Notice) → AllByRecursion (IsOwedBy (occurrence j s)) ns → map (notice_kept (j ++ s ∷ [])) ns ≡ map in_flight ns
@@ -96,7 +96,7 @@ new_kept j s (n ∷ ns) all =
     let last = owed-last j s n all.0 in
     let not_dealt : was_dealt (j ++ s ∷ []) n ≡ false = ap is_some (first_behind-past n.owing.place (λ o. absorbs (is_dealt n.deal) o.event) (j ++ s ∷ []) last) in
     let not_ready = ready-last (j ++ s ∷ []) n last in
-    (λ i. notice_at (standing_by (not_dealt i) (option_map (λ o. o.at) (not_ready i))) n ∷ new_kept j s ns all.1 i)
+    (λ i. notice_at (stage_by (not_dealt i) (is_some (not_ready i))) n ∷ new_kept j s ns all.1 i)
 
 -- ---- all of them
 
@@ -132,54 +132,54 @@ never_turn s never u Mail = never u
 never_turn s never u Push = refl
 
 -- by each of the tests
-by_tests : (at : ℕ) (w : Waiting) (g : Standing) (tn rd cl dl tn' rd' cl' dl' : Bool) → tn ≡ tn' → rd ≡ rd' → cl ≡ cl' → dl ≡ dl' → option_map (λ g. let v : Waiting = record w { standing = g } in v) (next_by at tn rd cl dl g) ≡ option_map (λ g. let v : Waiting = record w { standing = g } in v) (next_by at tn' rd' cl' dl' g)
-by_tests at w g tn rd cl dl tn' rd' cl' dl' a b c d = (λ i. option_map (λ g. let v : Waiting = record w { standing = g } in v) (next_by at (a i) (b i) (c i) (d i) g))
+by_tests : (w : Waiting) (g : Stage) (tn rd cl dl tn' rd' cl' dl' : Bool) → tn ≡ tn' → rd ≡ rd' → cl ≡ cl' → dl ≡ dl' → option_map (λ g. let v : Waiting = record w { stage = g } in v) (next_by tn rd cl dl g) ≡ option_map (λ g. let v : Waiting = record w { stage = g } in v) (next_by tn' rd' cl' dl' g)
+by_tests w g tn rd cl dl tn' rd' cl' dl' a b c d = (λ i. option_map (λ g. let v : Waiting = record w { stage = g } in v) (next_by (a i) (b i) (c i) (d i) g))
 
 -- an event that is nothing to any notice
 pub steps_left : (s : Stamped) → ((u : UserId) → is_mail_turn_of u s.event ≡ false) → ((u : UserId) (k : DealNo) (online : Bool) → readies u k online s.event ≡ false) → ((u : UserId) (k : DealNo) → clears u k s.event ≡ false) → ((k : DealNo) → absorbs (is_dealt k) s.event ≡ false)
     → (ws : List Waiting) → filter_map (step s) ws ≡ ws
 steps_left s never not_ready not_cleared not_dealt ws = all_steps (step s) (λ w. Some w) each ws ∙ untouched ws
   where
-    same : (w : Waiting) (g : Standing) → option_map (λ g. let v : Waiting = record w { standing = g } in v) (next_by s.at false false false false g) ≡ Some (record w { standing = g })
+    same : (w : Waiting) (g : Stage) → option_map (λ g. let v : Waiting = record w { stage = g } in v) (next_by false false false false g) ≡ Some (record w { stage = g })
     same w Flight = refl
     same w Held = refl
-    same w (Ready since) = refl
+    same w Ready = refl
 
     each : (w : Waiting) → step s w ≡ Some w
     each w =
-        by_tests s.at w w.standing (is_turn_of w.user w.way s.event) (readies w.user w.deal w.online s.event) (clears w.user w.deal s.event) (absorbs (is_dealt w.deal) s.event) false false false false
+        by_tests w w.stage (is_turn_of w.user w.way s.event) (readies w.user w.deal w.online s.event) (clears w.user w.deal s.event) (absorbs (is_dealt w.deal) s.event) false false false false
         (never_turn s never w.user w.way) (not_ready w.user w.deal w.online) (not_cleared w.user w.deal) (not_dealt w.deal)
-        ∙ same w w.standing
+        ∙ same w w.stage
 
 -- a start makes all ready
-pub step_start : (at : ℕ) (w : Waiting) → step (record { at = at; event = Restart }) w ≡ Some (readied at w)
+pub step_start : (at : ℕ) (w : Waiting) → step (record { at = at; event = Restart }) w ≡ Some (readied w)
 step_start at w =
-    by_tests at w w.standing (is_turn_of w.user w.way Restart) true false false false true false false (never_turn (record { at = at; event = Restart }) (λ u. refl) w.user w.way) refl refl refl
-    ∙ by w.standing
+    by_tests w w.stage (is_turn_of w.user w.way Restart) true false false false true false false (never_turn (record { at = at; event = Restart }) (λ u. refl) w.user w.way) refl refl refl
+    ∙ by w.stage
   where
-    by : (g : Standing) → option_map (λ g. let v : Waiting = record w { standing = g } in v) (next_by at false true false false g) ≡ Some (record w { standing = ready_if true at g })
+    by : (g : Stage) → option_map (λ g. let v : Waiting = record w { stage = g } in v) (next_by false true false false g) ≡ Some (record w { stage = ready_if true g })
     by Flight = refl
     by Held = refl
-    by (Ready since) = refl
+    by Ready = refl
 
-pub steps_start : (at : ℕ) (ws : List Waiting) → filter_map (step (record { at = at; event = Restart })) ws ≡ map (readied at) ws
-steps_start at ws = all_steps (step (record { at = at; event = Restart })) (λ w. Some (readied at w)) (step_start at) ws ∙ mapped (readied at) ws
+pub steps_start : (at : ℕ) (ws : List Waiting) → filter_map (step (record { at = at; event = Restart })) ws ≡ map readied ws
+steps_start at ws = all_steps (step (record { at = at; event = Restart })) (λ w. Some (readied w)) (step_start at) ws ∙ mapped readied ws
 
 -- a mail turn takes the user's ready mails
 pub step_mails : (at : ℕ) (u : UserId) (w : Waiting) → step (record { at = at; event = MailTurn u }) w ≡ cond (is_ready_mail_to u w) None (Some w)
 step_mails at u w =
-    by_tests at w w.standing (is_turn_of w.user w.way (MailTurn u)) false false false (is_mail_to u w) false false false (turns w.user w.way) refl refl refl
-    ∙ by (is_mail_to u w) w.standing
+    by_tests w w.stage (is_turn_of w.user w.way (MailTurn u)) false false false (is_mail_to u w) false false false (turns w.user w.way) refl refl refl
+    ∙ by (is_mail_to u w) w.stage
   where
     turns : (v : UserId) (way : Way) → is_turn_of v way (MailTurn u) ≡ (v.0 == u.0 && rank way == 0)
     turns v Mail = swapped u.0 v.0 ∙ sym (and-true (v.0 == u.0))
     turns v Push = sym (and-false (v.0 == u.0))
 
-    by : (m : Bool) (g : Standing) → option_map (λ g. let v : Waiting = record w { standing = g } in v) (next_by at m false false false g) ≡ cond (m && is_ready (record w { standing = g })) None (Some (record w { standing = g }))
-    by m Flight = ap (λ b. cond b None (Some (record w { standing = Flight }))) (sym (and-false m))
-    by m Held = ap (λ b. cond b None (Some (record w { standing = Held }))) (sym (and-false m))
-    by true (Ready since) = refl
-    by false (Ready since) = refl
+    by : (m : Bool) (g : Stage) → option_map (λ g. let v : Waiting = record w { stage = g } in v) (next_by m false false false g) ≡ cond (m && is_ready (record w { stage = g })) None (Some (record w { stage = g }))
+    by m Flight = ap (λ b. cond b None (Some (record w { stage = Flight }))) (sym (and-false m))
+    by m Held = ap (λ b. cond b None (Some (record w { stage = Held }))) (sym (and-false m))
+    by true Ready = refl
+    by false Ready = refl
 
 pub steps_mails : (at : ℕ) (u : UserId) (ws : List Waiting) → filter_map (step (record { at = at; event = MailTurn u })) ws ≡ filter (λ w. not (is_ready_mail_to u w)) ws
 steps_mails at u ws = all_steps (step (record { at = at; event = MailTurn u })) (λ w. cond (is_ready_mail_to u w) None (Some w)) (step_mails at u) ws ∙ filtered (is_ready_mail_to u) ws
@@ -187,21 +187,21 @@ steps_mails at u ws = all_steps (step (record { at = at; event = MailTurn u })) 
 -- a cleared deal takes the user's undecided notices of it
 pub step_cleared : (at : ℕ) (u : UserId) (deals : List DealNo) (q : QueueId) (w : Waiting) → step (record { at = at; event = Absorbed (Cleared u deals q) }) w ≡ cond (is_named u deals w && is_undecided w) None (Some w)
 step_cleared at u deals q w =
-    by_tests at w w.standing (is_turn_of w.user w.way (Absorbed (Cleared u deals q))) (readies w.user w.deal w.online (Absorbed (Cleared u deals q))) (clears w.user w.deal (Absorbed (Cleared u deals q))) false
+    by_tests w w.stage (is_turn_of w.user w.way (Absorbed (Cleared u deals q))) (readies w.user w.deal w.online (Absorbed (Cleared u deals q))) (clears w.user w.deal (Absorbed (Cleared u deals q))) false
     false false (is_named u deals w) false (never_turn (record { at = at; event = Absorbed (Cleared u deals q) }) (λ v. refl) w.user w.way) (none w.online) (ap (λ b. b && has_deal deals w.deal) (swapped u.0 w.user.0)) refl
-    ∙ by (is_named u deals w) w.standing
+    ∙ by (is_named u deals w) w.stage
   where
     none : (online : Bool) → readies w.user w.deal online (Absorbed (Cleared u deals q)) ≡ false
     none true = refl
     none false = refl
 
-    by : (m : Bool) (g : Standing) → option_map (λ g. let v : Waiting = record w { standing = g } in v) (next_by at false false m false g) ≡ cond (m && is_undecided (record w { standing = g })) None (Some (record w { standing = g }))
+    by : (m : Bool) (g : Stage) → option_map (λ g. let v : Waiting = record w { stage = g } in v) (next_by false false m false g) ≡ cond (m && is_undecided (record w { stage = g })) None (Some (record w { stage = g }))
     by true Flight = refl
     by false Flight = refl
     by true Held = refl
     by false Held = refl
-    by true (Ready since) = refl
-    by false (Ready since) = refl
+    by true Ready = refl
+    by false Ready = refl
 
 pub steps_cleared : (at : ℕ) (u : UserId) (deals : List DealNo) (q : QueueId) (ws : List Waiting) → filter_map (step (record { at = at; event = Absorbed (Cleared u deals q) })) ws ≡ filter (λ w. not (is_named u deals w && is_undecided w)) ws
 steps_cleared at u deals q ws =
@@ -209,34 +209,34 @@ steps_cleared at u deals q ws =
     ∙ filtered (λ w. is_named u deals w && is_undecided w) ws
 
 -- a missed deal makes the user's undecided notices of it ready
-pub step_missed : (at : ℕ) (u : UserId) (deals : List DealNo) (w : Waiting) → step (record { at = at; event = Absorbed (Missed u deals) }) w ≡ Some (readied_if (is_named u deals w) at w)
+pub step_missed : (at : ℕ) (u : UserId) (deals : List DealNo) (w : Waiting) → step (record { at = at; event = Absorbed (Missed u deals) }) w ≡ Some (readied_if (is_named u deals w) w)
 step_missed at u deals w =
-    by_tests at w w.standing (is_turn_of w.user w.way (Absorbed (Missed u deals))) (readies w.user w.deal w.online (Absorbed (Missed u deals))) false false
+    by_tests w w.stage (is_turn_of w.user w.way (Absorbed (Missed u deals))) (readies w.user w.deal w.online (Absorbed (Missed u deals))) false false
     false (is_named u deals w) false false (never_turn (record { at = at; event = Absorbed (Missed u deals) }) (λ v. refl) w.user w.way) (missed w.online ∙ ap (λ b. b && has_deal deals w.deal) (swapped u.0 w.user.0)) refl refl
-    ∙ by (is_named u deals w) w.standing
+    ∙ by (is_named u deals w) w.stage
   where
     missed : (online : Bool) → readies w.user w.deal online (Absorbed (Missed u deals)) ≡ (u.0 == w.user.0 && has_deal deals w.deal)
     missed true = refl
     missed false = refl
 
-    by : (m : Bool) (g : Standing) → option_map (λ g. let v : Waiting = record w { standing = g } in v) (next_by at false m false false g) ≡ Some (record w { standing = ready_if m at g })
+    by : (m : Bool) (g : Stage) → option_map (λ g. let v : Waiting = record w { stage = g } in v) (next_by false m false false g) ≡ Some (record w { stage = ready_if m g })
     by true Flight = refl
     by false Flight = refl
     by true Held = refl
     by false Held = refl
-    by true (Ready since) = refl
-    by false (Ready since) = refl
+    by true Ready = refl
+    by false Ready = refl
 
-pub steps_missed : (at : ℕ) (u : UserId) (deals : List DealNo) (ws : List Waiting) → filter_map (step (record { at = at; event = Absorbed (Missed u deals) })) ws ≡ map (λ w. readied_if (is_named u deals w) at w) ws
-steps_missed at u deals ws = all_steps (step (record { at = at; event = Absorbed (Missed u deals) })) (λ w. Some (readied_if (is_named u deals w) at w)) (step_missed at u deals) ws ∙ mapped (λ w. readied_if (is_named u deals w) at w) ws
+pub steps_missed : (at : ℕ) (u : UserId) (deals : List DealNo) (ws : List Waiting) → filter_map (step (record { at = at; event = Absorbed (Missed u deals) })) ws ≡ map (λ w. readied_if (is_named u deals w) w) ws
+steps_missed at u deals ws = all_steps (step (record { at = at; event = Absorbed (Missed u deals) })) (λ w. Some (readied_if (is_named u deals w) w)) (step_missed at u deals) ws ∙ mapped (λ w. readied_if (is_named u deals w) w) ws
 
 -- a dealt deal makes its undecided notices ready or held
 pub step_dealt : (at : ℕ) (k : DealNo) (verdicts : List UserVerdict) (idle live : List UserId) → ((u : UserId) → is_one_of idle u ≡ gives_idle verdicts u) → ((u : UserId) → is_one_of live u ≡ gives_live verdicts u)
-    → (w : Waiting) → step (record { at = at; event = Absorbed (Dealt k verdicts) }) w ≡ Some (if of_deal k w then dealt_to at idle live w else w)
+    → (w : Waiting) → step (record { at = at; event = Absorbed (Dealt k verdicts) }) w ≡ Some (if of_deal k w then dealt_to idle live w else w)
 step_dealt at k verdicts idle live are_idle are_live w =
-    by_tests at w w.standing (is_turn_of w.user w.way (Absorbed (Dealt k verdicts))) (readies w.user w.deal w.online (Absorbed (Dealt k verdicts))) false (k.0 == w.deal.0)
+    by_tests w w.stage (is_turn_of w.user w.way (Absorbed (Dealt k verdicts))) (readies w.user w.deal w.online (Absorbed (Dealt k verdicts))) false (k.0 == w.deal.0)
     false (of_deal k w && found) false (of_deal k w) (never_turn (record { at = at; event = Absorbed (Dealt k verdicts) }) (λ v. refl) w.user w.way) found_so refl (swapped k.0 w.deal.0)
-    ∙ by (of_deal k w) found w.standing
+    ∙ by (of_deal k w) found w.stage
   where
     found : Bool
     found = is_one_of idle w.user || (w.online && is_one_of live w.user)
@@ -254,19 +254,19 @@ step_dealt at k verdicts idle live are_idle are_live w =
         all_tests (k.0 == w.deal.0) (gives_idle verdicts w.user) w.online (gives_live verdicts w.user)
         ∙ (λ n. swapped k.0 w.deal.0 n && (sym (are_idle w.user) n || (w.online && sym (are_live w.user) n)))
 
-    by : (q r : Bool) (g : Standing) → option_map (λ g. let v : Waiting = record w { standing = g } in v) (next_by at false (q && r) false q g) ≡ Some (if q then record w { standing = dealt_by r at g } else record w { standing = g })
+    by : (q r : Bool) (g : Stage) → option_map (λ g. let v : Waiting = record w { stage = g } in v) (next_by false (q && r) false q g) ≡ Some (if q then record w { stage = dealt_by r g } else record w { stage = g })
     by true true Flight = refl
     by true false Flight = refl
     by true true Held = refl
     by true false Held = refl
-    by true true (Ready since) = refl
-    by true false (Ready since) = refl
+    by true true Ready = refl
+    by true false Ready = refl
     by false r Flight = refl
     by false r Held = refl
-    by false r (Ready since) = refl
+    by false r Ready = refl
 
 pub steps_dealt : (at : ℕ) (k : DealNo) (verdicts : List UserVerdict) (idle live : List UserId) → ((u : UserId) → is_one_of idle u ≡ gives_idle verdicts u) → ((u : UserId) → is_one_of live u ≡ gives_live verdicts u)
-    → (ws : List Waiting) → filter_map (step (record { at = at; event = Absorbed (Dealt k verdicts) })) ws ≡ map (λ w. if of_deal k w then dealt_to at idle live w else w) ws
+    → (ws : List Waiting) → filter_map (step (record { at = at; event = Absorbed (Dealt k verdicts) })) ws ≡ map (λ w. if of_deal k w then dealt_to idle live w else w) ws
 steps_dealt at k verdicts idle live are_idle are_live ws =
-    all_steps (step (record { at = at; event = Absorbed (Dealt k verdicts) })) (λ w. Some (if of_deal k w then dealt_to at idle live w else w)) (step_dealt at k verdicts idle live are_idle are_live) ws
-    ∙ mapped (λ w. if of_deal k w then dealt_to at idle live w else w) ws
+    all_steps (step (record { at = at; event = Absorbed (Dealt k verdicts) })) (λ w. Some (if of_deal k w then dealt_to idle live w else w)) (step_dealt at k verdicts idle live are_idle are_live) ws
+    ∙ mapped (λ w. if of_deal k w then dealt_to idle live w else w) ws

@@ -13,6 +13,16 @@ pub changed_numbered-from_zero : {A : Type 0} (n : ℕ) (f : A → A) (xs : List
 changed_numbered-from_zero zero f xs h = absurd (h refl)
 changed_numbered-from_zero (suc n) f xs h = let e : suc n - 1 ≡ n = omega arith in rw e
 
+-- a change leaves the length
+pub changed-long : {A : Type 0} (n : ℕ) (f : A → A) (xs : List A) → length (changed_numbered n f xs) ≡ length xs
+changed-long zero f xs = refl
+changed-long {A} (suc n) f xs = from n xs
+  where
+    from : (n : ℕ) (xs : List A) → length (changed_at n f xs) ≡ length xs
+    from n [] = refl
+    from zero (x ∷ xs) = refl
+    from (suc n) (x ∷ xs) = ap suc (from n xs)
+
 -- past the end nothing changes
 pub changed_at-past : {A : Type 0} (n : ℕ) (f : A → A) (xs : List A) → length xs ≤ n → changed_at n f xs ≡ xs
 changed_at-past n f [] h = refl

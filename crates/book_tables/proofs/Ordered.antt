@@ -13,11 +13,13 @@ use Rattle.notice_ledger.specs.Past.Journal.{Occurrence, occurrence}
 use Rattle.notice_ledger.specs.Past.Values.{SentMessage, message_of, messages, people, deal_count}
 use Rattle.notice_ledger.specs.Past.Triggers.{trigger, came_by}
 use Rattle.notice_ledger.specs.Past.Owed.{Notice, notice_of, owed_of, owed_by, notices, account_of, is_pending, waiting}
-use Rattle.notice_ledger.proofs.Lists.{AllByRecursion-append, AllByRecursion-weaker, AllByRecursion-filter_map, by_appending}
+use Rattle.notice_ledger.proofs.Lists.{AllByRecursion-append, AllByRecursion-weaker, AllByRecursion-filter, AllByRecursion-filter_map, by_appending}
 use Rattle.notice_ledger.proofs.Apart.{Pairwise, Pairwise-append, Pairwise-filter}
 use Rattle.notice_ledger.proofs.Appended.{notices-nil, notices-append, messages-append}
 use Rattle.notice_ledger.proofs.Sent.{deal_count-messages}
-use Rattle.book_tables.specs.Notices.{rank, Precedes, IsInOrder}
+use Rattle.notice_ledger.proofs.Waiting.{IsOwedBy, owed_by-each}
+use Rattle.book_tables.proofs.Sought.{all-both}
+use Rattle.book_tables.specs.Notices.{rank, Precedes, IsInOrder, AreNumbered}
 use Rattle.book_tables.specs.Tables.{Holds, notice_kept}
 use Rattle.book_tables.specs.declared.tables.Tables.{Tables}
 use Rattle.chat_model.specs.declared.deal.UserVerdict.{UserVerdict}
@@ -177,9 +179,27 @@ waiting-ordered j = kept (waiting j) (Pairwise-filter Comes (λ n. is_pending (a
     kept [] p = tt
     kept (n ∷ ns) p = (all_kept n ns p.0, kept ns p.1)
 
+-- each notice is of the message of its deal
+notices-numbered : (j : List Stamped) → AllByRecursion (λ n. n.number.0 ≡ n.deal.0 + 1) (notices j)
+notices-numbered = by_appending (λ j. AllByRecursion (λ n. n.number.0 ≡ n.deal.0 + 1) (notices j)) (rw notices-nil tt) (λ j s h.
+    rw (notices-append j s) (AllByRecursion-append (λ n. n.number.0 ≡ n.deal.0 + 1) (notices j) (owed_by (occurrence j s)) h
+    (all-both (IsOwedBy (occurrence j s)) (λ n. n.deal.0 ≡ deal_count j) (λ n. n.number.0 ≡ n.deal.0 + 1) (λ n owed dealt. omega (arith, owed.number, dealt, deal_count-messages j))
+    (owed_by (occurrence j s)) (owed_by-each (occurrence j s)) (owed_by-deal (occurrence j s)))))
+
+pub waiting-numbered : (j : List Stamped) → AreNumbered (map (notice_kept j) (waiting j))
+unfolding waiting
+waiting-numbered j = kept (waiting j) (AllByRecursion-filter (λ n. n.number.0 ≡ n.deal.0 + 1) (λ n. is_pending (account_of j n)) (notices j) (notices-numbered j))
+  where
+    kept : (ns : List Notice) → AllByRecursion (λ n. n.number.0 ≡ n.deal.0 + 1) ns → AreNumbered (map (notice_kept j) ns)
+    kept [] all = tt
+    kept (n ∷ ns) all = (all.0, kept ns all.1)
+
 -- so the tables keep them in order
 pub in_order : (t : Tables) (j : List Stamped) → Holds t j → IsInOrder t.waiting.items
 in_order t j holds = subst IsInOrder (sym holds.waiting) (waiting-ordered j)
+
+pub numbered_so : (t : Tables) (j : List Stamped) → Holds t j → AreNumbered t.waiting.items
+numbered_so t j holds = subst AreNumbered (sym holds.waiting) (waiting-numbered j)
 
 -- ---- verdicts
 

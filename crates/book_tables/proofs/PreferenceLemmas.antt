@@ -1,10 +1,11 @@
 -- What users prefer: after a change of a list, at a number, and at a journal with one more event.
-use Rattle.std.proofs.Common.{◌≡◌, ℕ, suc, ◌+◌, Bool, true, false, ◌&&◌, ◌==◌, eqb, cond, List, [], ◌∷◌, ◌++◌, length, map, set, refl, sym, ap, ◌∙◌, arith, ⊎_elim}
+use Rattle.std.proofs.Common.{◌≡◌, ℕ, suc, ◌+◌, Bool, true, false, ◌&&◌, ◌==◌, eqb, cond, List, [], ◌∷◌, ◌++◌, length, map, set, refl, sym, ap, ◌∙◌, subst, arith, ⊎_elim}
 use Rattle.std.specs.Prelude.{Option, Some, None, option_map, is_some, unwrap_or, slice_get, if◌then◌else◌}
 use Rattle.std.specs.Option.{option_map_or}
 use Rattle.std.specs.HashMap.{HashMap, get_by}
 use Rattle.std.specs.Str.{str_eq_ignore_ascii_case, str_to_ascii_lowercase}
 use Rattle.std.specs.Cmp.Lexicographic.{nat_list_eq_equiv}
+use Rattle.std.proofs.lemmas.Bool.{eq-eqb}
 use Rattle.std.proofs.lemmas.Bool.Decides.{eqb_tells}
 use Rattle.chat_model.specs.declared.event.Stamped.{Stamped}
 use Rattle.chat_model.specs.declared.event.Event.TheVariants.{Asked}
@@ -109,6 +110,16 @@ at_number-changed ps m n f there =
     mapped : (o : Option Preferred) → is_some o ≡ true → option_map_or (λ (p : Preferred). p) (option_map f o) default_preferred ≡ f (option_map_or (λ (p : Preferred). p) o default_preferred)
     mapped None h = absurd (cc)
     mapped (Some p) h = refl
+
+-- what holds of what one set, before and after a change, holds of what stands at the number then
+pub at_number-keeps : (P : Preferred → Type 0) (ps : List Preferred) (m : ℕ) (f : Preferred → Preferred) → P (at_number ps m) → P (f (at_number ps m)) → P (at_number (changed_numbered m f ps) m)
+at_number-keeps P ps m f old new =
+    let reads : Option Preferred → Preferred = λ o. option_map_or (λ p. p) o default_preferred in
+    subst P (sym (ap reads (numbered-changed m m f ps) ∙ ap (λ b. reads (cond b (option_map f (numbered m ps)) (numbered m ps))) (eq-eqb m m refl))) (by (numbered m ps) old new)
+  where
+    by : (o : Option Preferred) → P (option_map_or (λ (p : Preferred). p) o default_preferred) → P (f (option_map_or (λ (p : Preferred). p) o default_preferred)) → P (option_map_or (λ (p : Preferred). p) (option_map f o) default_preferred)
+    by None old new = old
+    by (Some p) old new = new
 
 -- ---- the journal
 

@@ -1,10 +1,11 @@
 -- The changes of pending rows that each event brings make of the rows of the notices that wait those after the event.
 use Rattle.std.proofs.Common.{◌≡◌, ℕ, Bool, true, false, ◌&&◌, ◌||◌, ◌==◌, cond, List, [], ◌∷◌, ◌++◌, Option, Some, None, map, filter, refl, sym, ap, ◌∙◌, subst}
-use Rattle.std.specs.Prelude.{IfSome, option_map, if◌then◌else◌}
+use Rattle.std.specs.Prelude.{IfSome, option_map, IsPermutation, if◌then◌else◌}
 use Rattle.std.specs.Ordering.{is_eq}
-use Rattle.std.specs.List.{AllByRecursion, filter_map, flat_map, cons_option}
+use Rattle.std.specs.List.{AllByRecursion, filter_map, flat_map, cons_option, list_any}
 use Rattle.std.proofs.lemmas.List.{map-append, append-nil}
-use Rattle.std.proofs.lemmas.Bool.{eq-eqb}
+use Rattle.std.proofs.lemmas.Bool.{eq-eqb, eqb-true}
+use Rattle.std.proofs.lemmas.List.Sorted.{list_any-IsPermutation}
 use Rattle.chat_model.specs.declared.event.Stamped.{Stamped}
 use Rattle.chat_model.specs.declared.event.Event.TheVariants.{Restart, Absorbed, MailTurn}
 use Rattle.chat_model.specs.declared.deal.Outcome.TheVariants.{Dealt, Cleared, Missed}
@@ -12,6 +13,7 @@ use Rattle.chat_model.specs.declared.deal.QueueId.{QueueId}
 use Rattle.chat_model.specs.declared.deal.UserVerdict.{UserVerdict}
 use Rattle.chat_model.specs.declared.ids.DealNo.{DealNo}
 use Rattle.chat_model.specs.declared.ids.UserId.{UserId}
+use Rattle.chat_model.specs.declared.ids.MessageId.{MessageId}
 use Rattle.chat_model.specs.declared.trigger.Way.{Way}
 use Rattle.chat_model.specs.declared.trigger.Way.TheVariants.{Mail, Push}
 use Rattle.chat_model.specs.declared.row.Row.{Row}
@@ -29,11 +31,12 @@ use Rattle.notice_ledger.specs.Past.Owed.{Notice, same_way, owed_by, readies, cl
 use Rattle.notice_ledger.proofs.Apart.{Pairwise, Differ, waiting-apart}
 use Rattle.notice_ledger.proofs.Lists.{AllByRecursion-append}
 use Rattle.notice_ledger.proofs.RowKeys.{table, equal_from}
-use Rattle.book_tables.specs.declared.tables.Standing.{Standing}
-use Rattle.book_tables.specs.declared.tables.Standing.TheVariants.{Flight, Held, Ready}
+use Rattle.chat_model.specs.declared.row.Stage.{Stage}
+use Rattle.chat_model.specs.declared.row.Stage.TheVariants.{Flight, Held, Ready}
 use Rattle.book_tables.specs.declared.tables.Waiting.{Waiting}
-use Rattle.book_tables.specs.Notices.{rank, is_undecided, is_ready_mail_to, is_undecided_at, is_undecided_of, of_deal, is_named, named_by, ready_if, readied, dealt_by, dealt_to}
-use Rattle.book_tables.specs.Prepared.{notice_row, key_of_notice, puts_where, removes_where}
+use Rattle.book_tables.specs.Notices.{rank, is_ready, is_undecided, is_ready_mail_to, is_undecided_at, is_undecided_of, of_deal, is_named, named_by, ready_if, readied, dealt_by, dealt_to}
+use Rattle.book_tables.specs.Prepared.{notice_row, key_of_notice, puts_where, removes_where, removed_mail}
+use Rattle.book_tables.specs.Batched.{messages_to}
 use Rattle.book_tables.specs.Tables.{notice_kept, in_flight}
 use Rattle.book_tables.proofs.Moves.{swapped, step, kept-append, steps_left, step_start, step_mails, step_cleared, step_missed, step_dealt}
 use Rattle.book_tables.proofs.RowMoves.{change_key, KeysDiffer, passes_any, rows-moved}
@@ -174,18 +177,18 @@ makes_left j s never not_ready not_cleared not_dealt = record {
     again [] = refl
     again (w ∷ ws) = ap (λ cs. Put (notice_row w) ∷ cs) (again ws)
 
-pub makes_start : (j : List Stamped) (at : ℕ) → MakesPending j (record { at = at; event = Restart }) (puts_where is_undecided (readied at) (all_kept j))
+pub makes_start : (j : List Stamped) (at : ℕ) → MakesPending j (record { at = at; event = Restart }) (puts_where is_undecided readied (all_kept j))
 makes_start j at =
     let s : Stamped = record { at = at; event = Restart } in
-    subst (MakesPending j s) (one_test (λ t. puts_where t (readied at) (all_kept j)) is_undecided)
-    (puts_make j s refl (readied at) (λ w. refl) (is_undecided ∷ []) (λ w. ap (option_map notice_row) (step_start at w) ∙ (by w w.standing ∙ ap (λ b. cond b (Some (notice_row (readied at w))) (Some (notice_row w))) (sym (or-none (is_undecided w))))))
+    subst (MakesPending j s) (one_test (λ t. puts_where t readied (all_kept j)) is_undecided)
+    (puts_make j s refl readied (λ w. refl) (is_undecided ∷ []) (λ w. ap (option_map notice_row) (step_start at w) ∙ (by w w.stage ∙ ap (λ b. cond b (Some (notice_row (readied w))) (Some (notice_row w))) (sym (or-none (is_undecided w))))))
   where
-    by : (w : Waiting) (g : Standing) → Some (notice_row (record w { standing = ready_if true at g })) ≡ cond (is_undecided (record w { standing = g })) (Some (notice_row (record w { standing = ready_if true at g }))) (Some (notice_row (record w { standing = g })))
+    by : (w : Waiting) (g : Stage) → Some (notice_row (record w { stage = ready_if true g })) ≡ cond (is_undecided (record w { stage = g })) (Some (notice_row (record w { stage = ready_if true g }))) (Some (notice_row (record w { stage = g })))
     by w Flight = refl
     by w Held = refl
-    by w (Ready since) = refl
+    by w Ready = refl
 
-pub makes_mails : (j : List Stamped) (at : ℕ) (u : UserId) → MakesPending j (record { at = at; event = MailTurn u }) (removes_where (is_ready_mail_to u) (all_kept j))
+makes_mails : (j : List Stamped) (at : ℕ) (u : UserId) → MakesPending j (record { at = at; event = MailTurn u }) (removes_where (is_ready_mail_to u) (all_kept j))
 makes_mails j at u =
     let s : Stamped = record { at = at; event = MailTurn u } in
     subst (MakesPending j s) (one_test (λ t. removes_where t (all_kept j)) (is_ready_mail_to u))
@@ -195,22 +198,65 @@ makes_mails j at u =
     by w true = refl
     by w false = refl
 
+-- the rows of a user's ready mails go by their messages, in any order
+removed-mails : (u : UserId) (ws : List Waiting) → removes_where (is_ready_mail_to u) ws ≡ map (removed_mail u) (messages_to u ws)
+removed-mails u [] = refl
+removed-mails u (w ∷ ws) = by (w.user.0 == u.0) w.way (is_ready w) refl (removed-mails u ws)
+  where
+    same : (w.user.0 == u.0) ≡ true → w.user ≡ u
+    same e = ap (λ n. let v : UserId = record { 0 = n } in v) (eqb-true w.user.0 u.0 e)
+
+    by : (a : Bool) (way : Way) (c : Bool) → (w.user.0 == u.0) ≡ a → map (λ v. Remove (key_of_notice v)) (filter (is_ready_mail_to u) ws) ≡ map (removed_mail u) (map (λ v. v.message) (filter (is_ready_mail_to u) ws))
+        → map (λ v. Remove (key_of_notice v)) (cond ((a && rank way == 0) && c) (record w { way = way } ∷ filter (is_ready_mail_to u) ws) (filter (is_ready_mail_to u) ws))
+        ≡ map (removed_mail u) (map (λ v. v.message) (cond ((a && rank way == 0) && c) (record w { way = way } ∷ filter (is_ready_mail_to u) ws) (filter (is_ready_mail_to u) ws)))
+    by true Mail true e more = λ i. Remove (key.Pending (same e i) w.message Mail) ∷ more i
+    by true Mail false e more = more
+    by true Push c e more = more
+    by false way c e more = more
+
+gone-mails : (k : RowKey) (u : UserId) (ms : List MessageId) (o : Option Row) → row_after_all k (map (removed_mail u) ms) o ≡ cond (list_any (λ m. is_eq (key_cmp (key.Pending u m Mail) k)) ms) None o
+gone-mails k u [] o = refl
+gone-mails k u (m ∷ ms) o =
+    gone-mails k u ms (cond (is_eq (key_cmp (key.Pending u m Mail) k)) None o)
+    ∙ by (is_eq (key_cmp (key.Pending u m Mail) k)) (list_any (λ m. is_eq (key_cmp (key.Pending u m Mail) k)) ms)
+  where
+    by : (a b : Bool) → cond b None (cond a None o) ≡ cond (a || b) None o
+    by true true = refl
+    by true false = refl
+    by false b = refl
+
+pub makes_taken : (j : List Stamped) (at : ℕ) (u : UserId) (ms : List MessageId) → IsPermutation (messages_to u (all_kept j)) ms → MakesPending j (record { at = at; event = MailTurn u }) (map (removed_mail u) ms)
+makes_taken j at u ms moved =
+    let all = subst (MakesPending j (record { at = at; event = MailTurn u })) (removed-mails u (all_kept j)) (makes_mails j at u) in
+    record {
+      are = of ms;
+      makes = λ k.
+          let before = row_after_all k (map Put (map notice_row (all_kept j))) None in
+          gone-mails k u ms before
+          ∙ (ap (λ b. cond b None before) (sym (list_any-IsPermutation (λ m. is_eq (key_cmp (key.Pending u m Mail) k)) (messages_to u (all_kept j)) ms moved))
+          ∙ (sym (gone-mails k u (messages_to u (all_kept j)) before) ∙ all.makes k));
+    }
+  where
+    of : (ns : List MessageId) → AreOf 2 (map (removed_mail u) ns)
+    of [] = tt
+    of (n ∷ ns) = (refl, of ns)
+
 pub makes_dealt : (j : List Stamped) (at : ℕ) (k : DealNo) (verdicts : List UserVerdict) (idle live : List UserId) → ((u : UserId) → is_one_of idle u ≡ gives_idle verdicts u) → ((u : UserId) → is_one_of live u ≡ gives_live verdicts u)
-    → MakesPending j (record { at = at; event = Absorbed (Dealt k verdicts) }) (puts_where (is_undecided_of k) (dealt_to at idle live) (all_kept j))
+    → MakesPending j (record { at = at; event = Absorbed (Dealt k verdicts) }) (puts_where (is_undecided_of k) (dealt_to idle live) (all_kept j))
 makes_dealt j at k verdicts idle live are_idle are_live =
     let s : Stamped = record { at = at; event = Absorbed (Dealt k verdicts) } in
-    subst (MakesPending j s) (one_test (λ t. puts_where t (dealt_to at idle live) (all_kept j)) (is_undecided_of k))
-    (puts_make j s refl (dealt_to at idle live) (λ w. refl) (is_undecided_of k ∷ []) (λ w.
+    subst (MakesPending j s) (one_test (λ t. puts_where t (dealt_to idle live) (all_kept j)) (is_undecided_of k))
+    (puts_make j s refl (dealt_to idle live) (λ w. refl) (is_undecided_of k ∷ []) (λ w.
     ap (option_map notice_row) (step_dealt at k verdicts idle live are_idle are_live w)
-    ∙ (by w (of_deal k w) (is_one_of idle w.user || (w.online && is_one_of live w.user)) w.standing ∙ ap (λ b. cond b (Some (notice_row (dealt_to at idle live w))) (Some (notice_row w))) (sym (or-none (is_undecided_of k w))))))
+    ∙ (by w (of_deal k w) (is_one_of idle w.user || (w.online && is_one_of live w.user)) w.stage ∙ ap (λ b. cond b (Some (notice_row (dealt_to idle live w))) (Some (notice_row w))) (sym (or-none (is_undecided_of k w))))))
   where
-    by : (w : Waiting) (q r : Bool) (g : Standing) → option_map notice_row (Some (if q then record w { standing = dealt_by r at g } else record w { standing = g })) ≡ cond (q && is_undecided (record w { standing = g })) (Some (notice_row (record w { standing = dealt_by r at g }))) (Some (notice_row (record w { standing = g })))
+    by : (w : Waiting) (q r : Bool) (g : Stage) → option_map notice_row (Some (if q then record w { stage = dealt_by r g } else record w { stage = g })) ≡ cond (q && is_undecided (record w { stage = g })) (Some (notice_row (record w { stage = dealt_by r g }))) (Some (notice_row (record w { stage = g })))
     by w true true Flight = refl
     by w true false Flight = refl
     by w true true Held = refl
     by w true false Held = refl
-    by w true true (Ready since) = refl
-    by w true false (Ready since) = refl
+    by w true true Ready = refl
+    by w true false Ready = refl
     by w false r g = refl
 
 -- a notice is named where it passes one of the tests
@@ -244,13 +290,13 @@ makes_cleared j at u deals q =
     by w true = refl
     by w false = refl
 
-pub makes_missed : (j : List Stamped) (at : ℕ) (u : UserId) (deals : List DealNo) → MakesPending j (record { at = at; event = Absorbed (Missed u deals) }) (flat_map (λ t. puts_where t (readied at) (all_kept j)) (named_by u deals))
+pub makes_missed : (j : List Stamped) (at : ℕ) (u : UserId) (deals : List DealNo) → MakesPending j (record { at = at; event = Absorbed (Missed u deals) }) (flat_map (λ t. puts_where t readied (all_kept j)) (named_by u deals))
 makes_missed j at u deals =
-    puts_make j (record { at = at; event = Absorbed (Missed u deals) }) refl (readied at) (λ w. refl) (named_by u deals) (λ w.
-    ap (option_map notice_row) (step_missed at u deals w) ∙ (by w (is_named u deals w) w.standing ∙ ap (λ b. cond b (Some (notice_row (readied at w))) (Some (notice_row w))) (sym (named_so u deals w))))
+    puts_make j (record { at = at; event = Absorbed (Missed u deals) }) refl readied (λ w. refl) (named_by u deals) (λ w.
+    ap (option_map notice_row) (step_missed at u deals w) ∙ (by w (is_named u deals w) w.stage ∙ ap (λ b. cond b (Some (notice_row (readied w))) (Some (notice_row w))) (sym (named_so u deals w))))
   where
-    by : (w : Waiting) (q : Bool) (g : Standing) → Some (notice_row (record w { standing = ready_if q at g })) ≡ cond (q && is_undecided (record w { standing = g })) (Some (notice_row (record w { standing = ready_if true at g }))) (Some (notice_row (record w { standing = g })))
+    by : (w : Waiting) (q : Bool) (g : Stage) → Some (notice_row (record w { stage = ready_if q g })) ≡ cond (q && is_undecided (record w { stage = g })) (Some (notice_row (record w { stage = ready_if true g }))) (Some (notice_row (record w { stage = g })))
     by w true Flight = refl
     by w true Held = refl
-    by w true (Ready since) = refl
+    by w true Ready = refl
     by w false g = refl

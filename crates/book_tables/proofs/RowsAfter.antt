@@ -31,7 +31,7 @@ use Rattle.notice_ledger.proofs.Waiting.{waiting-pending}
 use Rattle.notice_ledger.proofs.RowKeys.{table, other_key}
 use Rattle.notice_ledger.proofs.RowOrder.{rows-ascending, rows-changed_all}
 use Rattle.book_tables.specs.declared.tables.Waiting.{Waiting}
-use Rattle.book_tables.specs.Tables.{standing_by, notice_at, notice_kept}
+use Rattle.book_tables.specs.Tables.{stage_by, notice_at, notice_kept}
 use Rattle.book_tables.proofs.NewRows.{new_user_rows, new_message_rows, new_outbox_rows, changes_with}
 use Rattle.book_tables.proofs.RowMoves.{change_key}
 use Rattle.notice_ledger.specs.Lawful.{is_lawful_after}
@@ -179,7 +179,7 @@ pub record MakesPending (j : List Stamped) (s : Stamped) (changes : List RowChan
 
 -- a pending notice has the row of what is kept of it
 one_pending : (n : Notice) (t r : Option Occurrence) (c d : Bool) → is_pending (account_by (option_map (decided n) t) None (is_some r) c d) ≡ true
-    → option_map (row_at_stage n) (stage_of (account_by (option_map (decided n) t) None (is_some r) c d)) ≡ Some (notice_row (notice_at (standing_by d (option_map (λ o. o.at) r)) n))
+    → option_map (row_at_stage n) (stage_of (account_by (option_map (decided n) t) None (is_some r) c d)) ≡ Some (notice_row (notice_at (stage_by d (is_some r)) n))
 one_pending n (Some x) r c d h = absurd (was_decided (switch_on x.past n.user n.way) h)
   where
     was_decided : (b : Bool) → is_pending (if b then account.Handed else account.Cancelled SwitchedOff) ≡ true → ⊥

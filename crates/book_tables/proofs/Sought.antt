@@ -1,23 +1,29 @@
 -- The notices that wait in their order: what a binary search finds, and what a change of what it found makes of the list.
-use Rattle.std.proofs.Common.{◌≡◌, ℕ, zero, suc, ◌+◌, ◌-◌, ◌<◌, ◌≤◌, Bool, true, false, ◌&&◌, ◌||◌, ◌==◌, not, cond, List, [], ◌∷◌, ◌++◌, length, map, take, drop, get_or, set, Some, refl, sym, ap, ◌∙◌, arith}
-use Rattle.std.specs.Prelude.{filter, slice_get, nat_lt, nat_le}
-use Rattle.std.specs.List.{AllByRecursion, AllWithin, flat_map}
+use Rattle.std.proofs.Common.{◌≡◌, ℕ, zero, suc, ◌+◌, ◌-◌, ◌<◌, ◌≤◌, Bool, true, false, ◌&&◌, ◌||◌, ◌==◌, not, cond, List, [], ◌∷◌, ◌++◌, length, map, take, drop, get_or, set, Some, refl, sym, ap, ◌∙◌, inl, inr, arith}
+use Rattle.std.specs.Prelude.{IsPermutation, filter, slice_get, nat_lt, nat_le}
+use Rattle.std.specs.List.{AllByRecursion, AllWithin, flat_map, list_any}
 use Rattle.std.specs.List.Sorted.{IsPartitionedBy, IsPartitionPoint, IsNonDecreasingBy}
+use Rattle.std.proofs.lemmas.Bool.{eq-eqb, eqb-true, false≢true}
 use Rattle.std.proofs.lemmas.Bool.Decides.{nat_tests}
 use Rattle.chat_model.specs.declared.ids.DealNo.{DealNo}
+use Rattle.chat_model.specs.declared.ids.MessageId.{MessageId}
 use Rattle.chat_model.specs.declared.ids.UserId.{UserId}
 use Rattle.chat_model.specs.declared.trigger.Way.{Way}
 use Rattle.chat_model.specs.declared.trigger.Way.TheVariants.{Mail, Push}
 use Rattle.chat_model.specs.Outcomes.{has_deal}
 use Rattle.std.proofs.Common.{eqb}
-use Rattle.std.proofs.lemmas.List.{append-nil, append_assoc, map-append, take-append-drop, drop-drop, get_or-drop, length-drop}
+use Rattle.std.proofs.lemmas.List.{append-nil, append_assoc, map-append, take-append-drop, drop-drop, get_or-drop, length-take, length-drop}
 use Rattle.std.proofs.lemmas.List.Elements.{filter-append}
+use Rattle.std.proofs.lemmas.List.Sorted.{list_any-IsPermutation}
+use Rattle.std.proofs.Math.Bool.{and-true}
 use Rattle.notice_ledger.proofs.Batches.{filter_same}
-use Rattle.notice_ledger.proofs.Lists.{AllByRecursion-weaker, filter-filter}
-use Rattle.book_tables.specs.declared.tables.Standing.{Standing}
-use Rattle.book_tables.specs.declared.tables.Standing.TheVariants.{Flight, Held, Ready}
+use Rattle.book_tables.proofs.Permuted.{Has, has-all}
+use Rattle.notice_ledger.proofs.Lists.{AllByRecursion-weaker, filter-filter, filter_all, filter_same_where}
+use Rattle.chat_model.specs.declared.row.Stage.{Stage}
+use Rattle.chat_model.specs.declared.row.Stage.TheVariants.{Flight, Held, Ready}
 use Rattle.book_tables.specs.declared.tables.Waiting.{Waiting}
-use Rattle.book_tables.specs.Notices.{rank, is_before, is_at, is_undecided, is_undecided_at, is_named, named_by, ready_if, readied_if, Precedes, IsInOrder, NonePasses, IsOnly, IsStretchOf}
+use Rattle.book_tables.specs.Notices.{rank, is_ready, is_ready_mail_to, is_before, is_at, is_undecided, is_undecided_at, is_batch_row, is_one_batch_row, is_named, named_by, ready_if, readied_if, Precedes, IsInOrder, AreNumbered, NonePasses, IsOnly, IsStretchOf}
+use Rattle.book_tables.specs.Batched.{messages_to}
 
 -- ---- the order of deals, users and ways
 
@@ -44,6 +50,28 @@ all_at P [] all i d lt = absurd (omega arith)
 all_at P (x ∷ xs) all zero d lt = all.0
 all_at P (x ∷ xs) all (suc i) d lt = all_at P xs all.1 i d (omega arith)
 
+-- what stands at a place, with whatever default
+pub got : {X : Type 0} (xs : List X) (i : ℕ) (x d : X) → slice_get xs i ≡ Some x → get_or xs i d ≡ x
+got [] i x d at = absurd (cc)
+got (y ∷ ys) zero x d at = cc
+got (y ∷ ys) (suc i) x d at = got ys i x d at
+
+pub gets : {X : Type 0} (xs : List X) (i : ℕ) (d : X) → i < length xs → slice_get xs i ≡ Some (get_or xs i d)
+gets [] i d lt = absurd (omega arith)
+gets (y ∷ ys) zero d lt = refl
+gets (y ∷ ys) (suc i) d lt = gets ys i d (omega arith)
+
+pub none-there : {X : Type 0} (xs : List X) (i : ℕ) (x : X) → length xs ≤ i → slice_get xs i ≡ Some x → ⊥
+none-there [] i x le at = cc
+none-there (y ∷ ys) zero x le at = absurd (omega arith)
+none-there (y ∷ ys) (suc i) x le at = none-there ys i x (omega arith) at
+
+-- something stands at a place within the list
+pub at_place : {X Q : Type 0} (xs : List X) (i : ℕ) → i < length xs → ((x : X) → slice_get xs i ≡ Some x → Q) → Q
+at_place [] i lt f = absurd (omega arith)
+at_place (y ∷ ys) zero lt f = f y refl
+at_place (y ∷ ys) (suc i) lt f = at_place ys i (omega arith) f
+
 -- ---- the search for one notice
 
 -- what stands before a place stands in front of the others
@@ -65,9 +93,6 @@ and-left : (a b : Bool) → a ≡ false → (a && b) ≡ false
 and-left true b h = absurd (cc)
 and-left false b h = refl
 
-undecided_none : (k : DealNo) (u : UserId) (way : Way) (ws : List Waiting) → NonePasses (is_at k u way) ws → NonePasses (is_undecided_at k u way) ws
-undecided_none k u way ws none = AllByRecursion-weaker (λ w. is_at k u way w ≡ false) (λ w. is_undecided_at k u way w ≡ false) (λ w h. and-left (is_at k u way w) (is_undecided w) h) ws none
-
 abbrev IsPoint : (Waiting → Bool) → List Waiting → ℕ → Type 0
 IsPoint p ws i = IsPartitionPoint (λ w. p w ≡ true) (λ w. p w ≡ false) ws i
 
@@ -78,25 +103,73 @@ point-next p w ws i point = (
 )
 
 -- the one at the place where those before it end is the one sought, or none is
-pub found-at : (k : DealNo) (u : UserId) (way : Way) (ws : List Waiting) (i : ℕ) (w : Waiting) → IsInOrder ws → IsPoint (is_before k u way) ws i → slice_get ws i ≡ Some w → is_undecided_at k u way w ≡ true → IsOnly (is_undecided_at k u way) ws i
+pub found-at : (k : DealNo) (u : UserId) (way : Way) (ws : List Waiting) (i : ℕ) (w : Waiting) → IsInOrder ws → IsPoint (is_before k u way) ws i → slice_get ws i ≡ Some w → is_at k u way w ≡ true → IsOnly (is_at k u way) ws i
 found-at k u way [] i w order point at passes = absurd (cc)
 found-at k u way (v ∷ ws) zero w order point at passes =
     let same : v ≡ w = cc in
-    (ap (is_undecided_at k u way) same ∙ passes, undecided_none k u way ws (none_behind k u way v (point.1 0 v (omega arith) (omega arith)) ws order.0))
+    (ap (is_at k u way) same ∙ passes, none_behind k u way v (point.1 0 v (omega arith) (omega arith)) ws order.0)
 found-at k u way (v ∷ ws) (suc i) w order point at passes =
     let next = point-next (is_before k u way) v ws i point in (
-      and-left (is_at k u way v) (is_undecided v) (less-apart v.deal.0 v.user.0 (rank v.way) k.0 u.0 (rank way) next.0),
+      less-apart v.deal.0 v.user.0 (rank v.way) k.0 u.0 (rank way) next.0,
       found-at k u way ws i w order.1 next.1 at passes,
     )
 
-pub none-at : (k : DealNo) (u : UserId) (way : Way) (ws : List Waiting) (i : ℕ) → IsInOrder ws → IsPoint (is_before k u way) ws i → ((w : Waiting) → slice_get ws i ≡ Some w → is_undecided_at k u way w ≡ false) → NonePasses (is_undecided_at k u way) ws
+pub none-at : (k : DealNo) (u : UserId) (way : Way) (ws : List Waiting) (i : ℕ) → IsInOrder ws → IsPoint (is_before k u way) ws i → ((w : Waiting) → slice_get ws i ≡ Some w → is_at k u way w ≡ false) → NonePasses (is_at k u way) ws
 none-at k u way [] i order point other = tt
-none-at k u way (v ∷ ws) zero order point other = (other v refl, undecided_none k u way ws (none_behind k u way v (point.1 0 v (omega arith) (omega arith)) ws order.0))
+none-at k u way (v ∷ ws) zero order point other = (other v refl, none_behind k u way v (point.1 0 v (omega arith) (omega arith)) ws order.0)
 none-at k u way (v ∷ ws) (suc i) order point other =
     let next = point-next (is_before k u way) v ws i point in (
-      and-left (is_at k u way v) (is_undecided v) (less-apart v.deal.0 v.user.0 (rank v.way) k.0 u.0 (rank way) next.0),
+      less-apart v.deal.0 v.user.0 (rank v.way) k.0 u.0 (rank way) next.0,
       none-at k u way ws i order.1 next.1 other,
     )
+
+-- ---- what passes a second test too
+
+and-both : (a b : Bool) → a ≡ true → b ≡ true → (a && b) ≡ true
+and-both a b h g = (λ n. h n && g n)
+
+and-right : (a b : Bool) → b ≡ false → (a && b) ≡ false
+and-right true b h = h
+and-right false b h = refl
+
+pub none-both : (p q : Waiting → Bool) (ws : List Waiting) → NonePasses p ws → NonePasses (λ w. p w && q w) ws
+none-both p q ws none = AllByRecursion-weaker (λ w. p w ≡ false) (λ w. (p w && q w) ≡ false) (λ w h. and-left (p w) (q w) h) ws none
+
+pub only-both : (p q : Waiting → Bool) (ws : List Waiting) (i : ℕ) (d : Waiting) → IsOnly p ws i → q (get_or ws i d) ≡ true → IsOnly (λ w. p w && q w) ws i
+only-both p q [] i d only passes = absurd only
+only-both p q (v ∷ ws) zero d only passes = (and-both (p v) (q v) only.0 passes, none-both p q ws only.1)
+only-both p q (v ∷ ws) (suc i) d only passes = (and-left (p v) (q v) only.0, only-both p q ws i d only.1 passes)
+
+pub none-second : (p q : Waiting → Bool) (ws : List Waiting) (i : ℕ) (d : Waiting) → IsOnly p ws i → q (get_or ws i d) ≡ false → NonePasses (λ w. p w && q w) ws
+none-second p q [] i d only fails = absurd only
+none-second p q (v ∷ ws) zero d only fails = (and-right (p v) (q v) fails, none-both p q ws only.1)
+none-second p q (v ∷ ws) (suc i) d only fails = (and-left (p v) (q v) only.0, none-second p q ws i d only.1 fails)
+
+-- the only one that passes does
+pub only-passes : (p : Waiting → Bool) (ws : List Waiting) (i : ℕ) (w : Waiting) → IsOnly p ws i → slice_get ws i ≡ Some w → p w ≡ true
+only-passes p [] i w only at = absurd only
+only-passes p (v ∷ ws) zero w only at = let same : v ≡ w = cc in sym (ap p same) ∙ only.0
+only-passes p (v ∷ ws) (suc i) w only at = only-passes p ws i w only.1 at
+
+-- it is by the way that is sought
+pub way-sought : (k : DealNo) (u : UserId) (way : Way) (w : Waiting) → is_undecided_at k u way w ≡ true → rank w.way ≡ rank way
+way-sought k u way w passes = eqb-true (rank w.way) (rank way) (last (w.deal.0 == k.0) (w.user.0 == u.0) (rank w.way == rank way) (is_undecided w) passes)
+  where
+    last : (a b c d : Bool) → ((a && (b && c)) && d) ≡ true → c ≡ true
+    last true true true d h = refl
+    last true true false d h = absurd (cc)
+    last true false c d h = absurd (cc)
+    last false b c d h = absurd (cc)
+
+-- tests that agree on all find the same
+pub none-same : (p q : Waiting → Bool) (ws : List Waiting) → AllByRecursion (λ w. p w ≡ q w) ws → NonePasses p ws → NonePasses q ws
+none-same p q [] same none = tt
+none-same p q (v ∷ ws) same none = (sym same.0 ∙ none.0, none-same p q ws same.1 none.1)
+
+pub only-same : (p q : Waiting → Bool) (ws : List Waiting) (i : ℕ) → AllByRecursion (λ w. p w ≡ q w) ws → IsOnly p ws i → IsOnly q ws i
+only-same p q [] i same only = absurd only
+only-same p q (v ∷ ws) zero same only = (sym same.0 ∙ only.0, none-same p q ws same.1 only.1)
+only-same p q (v ∷ ws) (suc i) same only = (sym same.0 ∙ only.0, only-same p q ws i same.1 only.1)
 
 -- ---- the stretch of a deal
 
@@ -222,6 +295,15 @@ in_place-next f old now i x y so_far lt at is =
 pub in_place-item : {X : Type 0} (f : X → X) (old now : List X) (i : ℕ) (x : X) → now ≡ map f (take i old) ++ drop i old → x ≡ get_or now i x → x ≡ get_or old i x
 in_place-item f old now i x so_far at = at ∙ (ap (λ zs. get_or zs i x) so_far ∙ still f old i x)
 
+pub in_place-long : {X : Type 0} (f : X → X) (old now : List X) (i : ℕ) → now ≡ map f (take i old) ++ drop i old → length now ≡ length old
+in_place-long {X} f old now i so_far = ap length so_far ∙ from old i
+  where
+    from : (vs : List X) (n : ℕ) → length (map f (take n vs) ++ drop n vs) ≡ length vs
+    from [] zero = refl
+    from [] (suc n) = refl
+    from (v ∷ vs) zero = refl
+    from (v ∷ vs) (suc n) = ap suc (from vs n)
+
 -- the notices of a stretch pass its test
 pub in_stretch : (test : Waiting → Bool) (from to : ℕ) (ws : List Waiting) → IsStretchOf test from to ws → to ≤ length ws → (i : ℕ) (d : Waiting) → from ≤ i → i < to → test (get_or ws i d) ≡ true
 in_stretch test from to ws s within i d low high =
@@ -264,6 +346,13 @@ filter-stretch test more from to ws le s =
     kept [] all = refl
     kept (v ∷ vs) all = (λ n. cond (all.0 n && more v) (v ∷ kept vs all.1 n) (kept vs all.1 n))
 
+-- and so many
+pub stretch-long : (test : Waiting → Bool) (from to : ℕ) (ws : List Waiting) → from ≤ to → to ≤ length ws → IsStretchOf test from to ws → length (filter test ws) ≡ to - from
+stretch-long test from to ws le within s =
+    let middle = take (to - from) (drop from ws) in
+    let long : length middle ≡ to - from = simp (length-take, length-drop) (omega arith) in
+    ap length (filter_same test (λ w. test w && true) (λ w. sym (and-true (test w))) ws ∙ (sym (filter-stretch test (λ w. true) from to ws le s) ∙ filter_all (λ w. true) (λ w. refl) middle)) ∙ long
+
 -- ---- a user's notices of some deals
 
 dealt-more : (deals : List DealNo) (k d : DealNo) → has_deal (deals ++ k ∷ []) d ≡ (has_deal deals d || k.0 == d.0)
@@ -295,30 +384,30 @@ named-more u deals k w =
     by false n true way = refl
     by false n false way = refl
 
-pub ready-next : (at : ℕ) (u : UserId) (deals : List DealNo) (k : DealNo) (ws : List Waiting)
-    → map (λ w. readied_if (is_at k u Push w) at w) (map (λ w. readied_if (is_at k u Mail w) at w) (map (λ w. readied_if (is_named u deals w) at w) ws)) ≡ map (λ w. readied_if (is_named u (deals ++ k ∷ []) w) at w) ws
-ready-next at u deals k [] = refl
-ready-next at u deals k (w ∷ ws) = (λ n. one n ∷ ready-next at u deals k ws n)
+pub ready-next : (u : UserId) (deals : List DealNo) (k : DealNo) (ws : List Waiting)
+    → map (λ w. readied_if (is_at k u Push w) w) (map (λ w. readied_if (is_at k u Mail w) w) (map (λ w. readied_if (is_named u deals w) w) ws)) ≡ map (λ w. readied_if (is_named u (deals ++ k ∷ []) w) w) ws
+ready-next u deals k [] = refl
+ready-next u deals k (w ∷ ws) = (λ n. one n ∷ ready-next u deals k ws n)
   where
-    by : (a b c : Bool) (g : Standing) → ready_if c at (ready_if b at (ready_if a at g)) ≡ ready_if ((a || b) || c) at g
+    by : (a b c : Bool) (g : Stage) → ready_if c (ready_if b (ready_if a g)) ≡ ready_if ((a || b) || c) g
     by true true true Flight = refl
     by true true true Held = refl
-    by true true true (Ready since) = refl
+    by true true true Ready = refl
     by true true false Flight = refl
     by true true false Held = refl
-    by true true false (Ready since) = refl
+    by true true false Ready = refl
     by true false true Flight = refl
     by true false true Held = refl
-    by true false true (Ready since) = refl
+    by true false true Ready = refl
     by true false false g = refl
     by false true true Flight = refl
     by false true true Held = refl
-    by false true true (Ready since) = refl
+    by false true true Ready = refl
     by false true false g = refl
     by false false c g = refl
 
-    one : (let v : Waiting = record w { standing = ready_if (is_at k u Push w) at (ready_if (is_at k u Mail w) at (ready_if (is_named u deals w) at w.standing)) } in v) ≡ readied_if (is_named u (deals ++ k ∷ []) w) at w
-    one = (λ n. record w { standing = (by (is_named u deals w) (is_at k u Mail w) (is_at k u Push w) w.standing ∙ ap (λ b. ready_if b at w.standing) (named-more u deals k w)) n })
+    one : (let v : Waiting = record w { stage = ready_if (is_at k u Push w) (ready_if (is_at k u Mail w) (ready_if (is_named u deals w) w.stage)) } in v) ≡ readied_if (is_named u (deals ++ k ∷ []) w) w
+    one = (λ n. record w { stage = (by (is_named u deals w) (is_at k u Mail w) (is_at k u Push w) w.stage ∙ ap (λ b. ready_if b w.stage) (named-more u deals k w)) n })
 
 pub clear-next : (u : UserId) (deals : List DealNo) (k : DealNo) (ws : List Waiting)
     → filter (λ w. not (is_undecided_at k u Push w)) (filter (λ w. not (is_undecided_at k u Mail w)) (filter (λ w. not (is_named u deals w && is_undecided w)) ws)) ≡ filter (λ w. not (is_named u (deals ++ k ∷ []) w && is_undecided w)) ws
@@ -349,9 +438,9 @@ and-no : (b : Bool) → (b && false) ≡ false
 and-no true = refl
 and-no false = refl
 
-pub nobody-named : (at : ℕ) (u : UserId) (ws : List Waiting) → map (λ w. readied_if (is_named u [] w) at w) ws ≡ ws
-nobody-named at u [] = refl
-nobody-named at u (w ∷ ws) = (λ n. readied_if (and-no (w.user.0 == u.0) n) at w ∷ nobody-named at u ws n)
+pub nobody-named : (u : UserId) (ws : List Waiting) → map (λ w. readied_if (is_named u [] w) w) ws ≡ ws
+nobody-named u [] = refl
+nobody-named u (w ∷ ws) = (λ n. readied_if (and-no (w.user.0 == u.0) n) w ∷ nobody-named u ws n)
 
 pub nobody-cleared : (u : UserId) (ws : List Waiting) → filter (λ w. not (is_named u [] w && is_undecided w)) ws ≡ ws
 nobody-cleared u ws = none-gone (λ w. is_named u [] w && is_undecided w) ws (each ws)
@@ -376,3 +465,113 @@ given-more f u deals k =
     flat_map-append : {X : Type 0} (f : (Waiting → Bool) → List X) (ss ts : List (Waiting → Bool)) → flat_map f (ss ++ ts) ≡ flat_map f ss ++ flat_map f ts
     flat_map-append f [] ts = refl
     flat_map-append f (s ∷ ss) ts = ap (λ xs. f s ++ xs) (flat_map-append f ss ts) ∙ sym (append_assoc (f s) (flat_map f ss) (flat_map f ts))
+
+-- ---- batch rows
+
+-- where a message is one above its deal, a batch row of the message is the notice of the deal, once it is ready
+row-at : (k : DealNo) (u : UserId) (m : MessageId) (w : Waiting) → m.0 ≡ k.0 + 1 → w.message.0 ≡ w.deal.0 + 1 → (is_at k u Mail w && is_ready w) ≡ is_batch_row u m w
+row-at k u m w next numbered = by (w.deal.0 == k.0) (w.user.0 == u.0 && rank w.way == 0) (is_ready w) ∙ ap (λ b. is_ready_mail_to u w && b) (same w.deal.0 w.message.0 k.0 m.0 next numbered)
+  where
+    by : (a b c : Bool) → ((a && b) && c) ≡ ((b && c) && a)
+    by true true true = refl
+    by true true false = refl
+    by true false c = refl
+    by false true true = refl
+    by false true false = refl
+    by false false c = refl
+
+    same : (d n k m : ℕ) → m ≡ k + 1 → n ≡ d + 1 → (d == k) ≡ (n == m)
+    same d n k m e f = grind (arith, nat_tests)
+
+pub rows-at : (k : DealNo) (u : UserId) (m : MessageId) (ws : List Waiting) → m.0 ≡ k.0 + 1 → AreNumbered ws → AllByRecursion (λ w. (is_at k u Mail w && is_ready w) ≡ is_batch_row u m w) ws
+rows-at k u m ws next numbered = AllByRecursion-weaker (λ w. w.message.0 ≡ w.deal.0 + 1) (λ w. (is_at k u Mail w && is_ready w) ≡ is_batch_row u m w) (λ w h. row-at k u m w next h) ws numbered
+
+-- no message has the number 0
+pub no-row : (u : UserId) (m : MessageId) (ws : List Waiting) → m.0 ≡ 0 → AreNumbered ws → NonePasses (is_batch_row u m) ws
+no-row u m ws none numbered = AllByRecursion-weaker (λ w. w.message.0 ≡ w.deal.0 + 1) (λ w. is_batch_row u m w ≡ false) (λ w h. and-right (is_ready_mail_to u w) (w.message.0 == m.0) (apart w.message.0 w.deal.0 m.0 h none)) ws numbered
+  where
+    apart : (n d m : ℕ) → n ≡ d + 1 → m ≡ 0 → (n == m) ≡ false
+    apart n d m e f = grind (arith, nat_tests)
+
+-- one more message is taken out
+pub take-next : (u : UserId) (ms : List MessageId) (m : MessageId) (ws : List Waiting)
+    → filter (λ w. not (is_batch_row u m w)) (filter (λ w. not (is_one_batch_row u ms w)) ws) ≡ filter (λ w. not (is_one_batch_row u (ms ++ m ∷ []) w)) ws
+take-next u ms m ws =
+    filter-filter (λ w. not (is_batch_row u m w)) (λ w. not (is_one_batch_row u ms w)) ws
+    ∙ filter_same (λ w. not (is_one_batch_row u ms w) && not (is_batch_row u m w)) (λ w. not (is_one_batch_row u (ms ++ m ∷ []) w))
+    (λ w. by (is_ready_mail_to u w) (list_any (λ k. w.message.0 == k.0) ms) (w.message.0 == m.0) ∙ ap (λ b. not (is_ready_mail_to u w && b)) (sym (more w ms))) ws
+  where
+    by : (a b c : Bool) → (not (a && b) && not (a && c)) ≡ not (a && (b || c))
+    by true true c = refl
+    by true false c = refl
+    by false b c = refl
+
+    or-none : (b : Bool) → (b || false) ≡ b
+    or-none true = refl
+    or-none false = refl
+
+    or-assoc : (a b c : Bool) → (a || (b || c)) ≡ ((a || b) || c)
+    or-assoc true b c = refl
+    or-assoc false b c = refl
+
+    more : (w : Waiting) (ks : List MessageId) → list_any (λ k. w.message.0 == k.0) (ks ++ m ∷ []) ≡ (list_any (λ k. w.message.0 == k.0) ks || w.message.0 == m.0)
+    more w [] = or-none (w.message.0 == m.0)
+    more w (k ∷ ks) = ap (λ b. w.message.0 == k.0 || b) (more w ks) ∙ or-assoc (w.message.0 == k.0) (list_any (λ k. w.message.0 == k.0) ks) (w.message.0 == m.0)
+
+pub nothing-taken : (u : UserId) (ws : List Waiting) → filter (λ w. not (is_one_batch_row u [] w)) ws ≡ ws
+nothing-taken u ws = none-gone (is_one_batch_row u []) ws (each ws)
+  where
+    each : (vs : List Waiting) → NonePasses (is_one_batch_row u []) vs
+    each [] = tt
+    each (v ∷ vs) = (and-right (is_ready_mail_to u v) false refl, each vs)
+
+pub numbered-filter : (test : Waiting → Bool) (ws : List Waiting) → AreNumbered ws → AreNumbered (filter test ws)
+numbered-filter test ws numbered = all-filter (λ w. w.message.0 ≡ w.deal.0 + 1) test ws numbered
+
+-- none that a list has passes where none passes
+pub none-has : (test : Waiting → Bool) (ws : List Waiting) (v : Waiting) → NonePasses test ws → Has v ws → test v ≡ true → ⊥
+unfolding Has
+none-has test [] v none has passes = has
+none-has test (w ∷ ws) v none (inl same) passes = false≢true (sym none.0 ∙ (ap test same ∙ passes))
+none-has test (w ∷ ws) v none (inr later) passes = none-has test ws v none.1 later passes
+
+-- what a list has and passes the test is the one that alone does
+pub only-is : (test : Waiting → Bool) (ws : List Waiting) (i : ℕ) (x v : Waiting) → IsOnly test ws i → slice_get ws i ≡ Some x → Has v ws → test v ≡ true → x ≡ v
+unfolding Has
+only-is test [] i x v only at has passes = absurd has
+only-is test (w ∷ ws) zero x v only at (inl same) passes = sym (first at) ∙ same
+  where
+    first : Some w ≡ Some x → w ≡ x
+    first e = cc
+only-is test (w ∷ ws) zero x v only at (inr later) passes = absurd (none-has test ws v only.1 later passes)
+only-is test (w ∷ ws) (suc i) x v only at (inl same) passes = absurd (false≢true (sym only.0 ∙ (ap test same ∙ passes)))
+only-is test (w ∷ ws) (suc i) x v only at (inr later) passes = only-is test ws i x v only.1 at later passes
+
+-- a ready mail's message is one of those of the user's
+message-listed : (u : UserId) (w : Waiting) (vs : List Waiting) → Has w vs → is_ready_mail_to u w ≡ true → list_any (λ m. w.message.0 == m.0) (messages_to u vs) ≡ true
+unfolding Has
+message-listed u w [] has ready = absurd has
+message-listed u w (v ∷ vs) (inl same) ready =
+    ap (λ b. list_any (λ m. w.message.0 == m.0) (map (λ x. x.message) (cond b (v ∷ filter (is_ready_mail_to u) vs) (filter (is_ready_mail_to u) vs)))) (ap (is_ready_mail_to u) same ∙ ready)
+    ∙ ap (λ b. b || list_any (λ m. w.message.0 == m.0) (messages_to u vs)) (eq-eqb w.message.0 v.message.0 (sym (ap (λ x. x.message.0) same)))
+message-listed u w (v ∷ vs) (inr later) ready = by (is_ready_mail_to u v) (message-listed u w vs later ready)
+  where
+    or-true : (a b : Bool) → b ≡ true → (a || b) ≡ true
+    or-true true b h = refl
+    or-true false b h = h
+
+    by : (b : Bool) → list_any (λ m. w.message.0 == m.0) (messages_to u vs) ≡ true
+        → list_any (λ m. w.message.0 == m.0) (map (λ x. x.message) (cond b (v ∷ filter (is_ready_mail_to u) vs) (filter (is_ready_mail_to u) vs))) ≡ true
+    by true rest = or-true (w.message.0 == v.message.0) (list_any (λ m. w.message.0 == m.0) (messages_to u vs)) rest
+    by false rest = rest
+
+-- without the rows of a user's ready mails, in whatever order, there is no ready mail to the user
+pub rows-taken : (u : UserId) (ws : List Waiting) (rows : List MessageId) → IsPermutation (messages_to u ws) rows → filter (λ w. not (is_one_batch_row u rows w)) ws ≡ filter (λ w. not (is_ready_mail_to u w)) ws
+rows-taken u ws rows moved =
+    filter_same_where (λ w. Has w ws) (λ w. not (is_one_batch_row u rows w)) (λ w. not (is_ready_mail_to u w))
+    (λ w has. ap not (by w (is_ready_mail_to u w) refl (λ ready. sym (list_any-IsPermutation (λ m. w.message.0 == m.0) (messages_to u ws) rows moved) ∙ message-listed u w ws has ready)))
+    ws (has-all ws)
+  where
+    by : (w : Waiting) (b : Bool) → is_ready_mail_to u w ≡ b → (is_ready_mail_to u w ≡ true → list_any (λ m. w.message.0 == m.0) rows ≡ true) → (b && list_any (λ m. w.message.0 == m.0) rows) ≡ b
+    by w true e listed = listed e
+    by w false e listed = refl

@@ -3,7 +3,7 @@ use Rattle.std.proofs.Common.{◌≡◌, ℕ, zero, suc, ◌+◌, Bool, ◌&&◌
 use Rattle.std.specs.Prelude.{Option, Some, None, option_map, is_some, unwrap_or, filter, slice_get, count_by}
 use Rattle.std.specs.Str.{str_eq_ignore_ascii_case}
 use Rattle.std.specs.Option.{option_map_or}
-use Rattle.std.specs.List.{list_all, list_any, filter_map}
+use Rattle.std.specs.List.{list_all, list_any}
 use Rattle.std.proofs.lemmas.List.{length-map}
 use Rattle.chat_model.specs.declared.event.Stamped.{Stamped}
 use Rattle.chat_model.specs.declared.ids.UserId.{UserId}
@@ -11,26 +11,23 @@ use Rattle.chat_model.specs.declared.ids.ChannelId.{ChannelId}
 use Rattle.chat_model.specs.declared.ids.GroupId.{GroupId}
 use Rattle.chat_model.specs.declared.mentions.UserName.{UserName}
 use Rattle.chat_model.specs.declared.mentions.GroupName.{GroupName}
-use Rattle.notice_ledger.specs.Past.Values.{numbered, Person, people, named_from, user_names, user_name, users, is_user, messages, deal_count, named_groups_from, groups, group_names, group_name, is_group, is_member, member_count, channels, subscribed, subscriber_count, settings}
+use Rattle.notice_ledger.specs.Past.Values.{numbered, Person, people, named_from, user_names, user_name, users, is_user, messages, deal_count, named_groups_from, groups, group_names, group_name, is_group, is_member, member_count, channels, subscribed, subscriber_count}
 use Rattle.notice_ledger.specs.Past.Owed.{waiting}
-use Rattle.notice_ledger.specs.Past.Due.{due, batch_rows}
 use Rattle.notice_ledger.specs.Past.Refusals.{is_taken}
 use Rattle.chat_model.specs.declared.counts.Counts.{Counts}
 use Rattle.notice_ledger.specs.Past.Audit.{counts_of, in_64_bits}
 use Rattle.notice_ledger.proofs.Sent.{deal_count-messages}
 use Rattle.notice_ledger.specs.Past.Audit.{same_account}
 use Rattle.notice_ledger.specs.Past.Owed.{account_of}
-use Rattle.notice_ledger.proofs.Stamps.{AreStamped, lesser, due-least}
 use Rattle.chat_model.specs.declared.row.Stage.{Stage}
 use Rattle.chat_model.specs.declared.row.Stage.TheVariants as stage
-use Rattle.std.specs.List.{reduce}
 use Rattle.notice_ledger.proofs.Sums.{sum_by_same}
 use Rattle.notice_ledger.proofs.Audited.{counts_of-waiting}
 use Rattle.book_tables.specs.declared.tables.Tables.{Tables}
 use Rattle.book_tables.specs.UserSets.{has_in, size_in}
 use Rattle.book_tables.specs.Tables.{Holds, message_kept}
-use Rattle.book_tables.specs.Notices.{is_at_stage, is_ready_mail_to}
-use Rattle.book_tables.proofs.Kept.{account_at, mails-kept, ready_mail, stages-kept, stamps-kept}
+use Rattle.book_tables.specs.Notices.{is_at_stage}
+use Rattle.book_tables.proofs.Kept.{account_at, stages-kept}
 use Rattle.book_tables.proofs.SetSizes.{size_in-counted}
 
 -- ---- lists
@@ -76,14 +73,14 @@ taken_from n (other ∷ names) name = ap (λ b. str_eq_ignore_ascii_case name ot
 count_same : (p q : UserId → Bool) → ((u : UserId) → p u ≡ q u) → (us : List UserId) → count_by p us ≡ count_by q us
 count_same p q same us = sum_by_same (λ u. cond (p u) 1 0) (λ u. cond (q u) 1 0) (λ u. ap (λ b. cond b 1 0) (same u)) us
 
--- the counts where so many notices wait at each stage, the outbox has so many entries, each of one handed notice, and so
--- many were switched off and cleared
-abbrev pub counted : ℕ → ℕ → ℕ → ℕ → ℕ → ℕ → Counts
-counted flight held waits entries off live = record {
+-- the counts where so many notices wait at each stage, so many were handed over, switched off and cleared, and the outbox
+-- has so many entries
+abbrev pub counted : ℕ → ℕ → ℕ → ℕ → ℕ → ℕ → ℕ → Counts
+counted flight held waits handed entries off live = record {
   flight = in_64_bits flight;
   held = in_64_bits held;
   ready = in_64_bits waits;
-  handed = in_64_bits entries;
+  handed = handed;
   read = 0;
   deleted = 0;
   off = off;
@@ -144,18 +141,13 @@ module _ (t : Tables) (past : List Stamped) (holds : Holds t past) where
   some-member [] u = refl
   some-member (g ∷ gs) u = ap (λ b. b || list_any (λ (h : GroupId). has_in t.members.items h.0 u) gs) (holds.members g u) ∙ ap (λ b. is_member past g u || b) (some-member gs u)
 
-  pub due-there : AreStamped past → (u : UserId) → option_map (λ at. at + (settings past u).period) (reduce lesser (filter_map (ready_mail u) t.waiting.items)) ≡ due past u
-  due-there stamped u =
-      ap (λ ws. option_map (λ at. at + (settings past u).period) (reduce lesser (filter_map (ready_mail u) ws))) holds.waiting
-      ∙ (ap (λ ns. option_map (λ at. at + (settings past u).period) (reduce lesser ns)) (stamps-kept u past) ∙ sym (due-least past u stamped))
-
   -- how many notices wait at a stage
   stage-there : (g : Stage) → length (filter (is_at_stage g) t.waiting.items) ≡ count_by (λ n. same_account (account_of past n) (account_at g)) (waiting past)
   stage-there g = ap (λ ws. length (filter (is_at_stage g) ws)) holds.waiting ∙ stages-kept g past
 
-  pub counts-there : counted (length (filter (is_at_stage stage.Flight) t.waiting.items)) (length (filter (is_at_stage stage.Held) t.waiting.items)) (length (filter (is_at_stage stage.Ready) t.waiting.items)) (length t.outbox.items) t.off t.live ≡ counts_of past
+  pub counts-there : counted (length (filter (is_at_stage stage.Flight) t.waiting.items)) (length (filter (is_at_stage stage.Held) t.waiting.items)) (length (filter (is_at_stage stage.Ready) t.waiting.items)) t.handed (length t.outbox.items) t.off t.live ≡ counts_of past
   counts-there =
-      (λ i. counted (stage-there stage.Flight i) (stage-there stage.Held i) (stage-there stage.Ready i) (length (holds.outbox i)) (holds.off i) (holds.live i)) ∙ sym (counts_of-waiting past)
+      (λ i. counted (stage-there stage.Flight i) (stage-there stage.Held i) (stage-there stage.Ready i) (holds.handed i) (length (holds.outbox i)) (holds.off i) (holds.live i)) ∙ sym (counts_of-waiting past)
 
   -- ---- how many there are
 
@@ -178,7 +170,3 @@ module _ (t : Tables) (past : List Stamped) (holds : Holds t past) where
 
   pub messages_dealt : length t.messages.items ≡ deal_count past
   messages_dealt = messages_long ∙ sym (deal_count-messages past)
-
-  -- how many mail notices of a user are ready
-  pub mails-there : (u : UserId) → length (filter (is_ready_mail_to u) t.waiting.items) ≡ length (batch_rows past u)
-  mails-there u = ap (λ ws. length (filter (is_ready_mail_to u) ws)) holds.waiting ∙ mails-kept u past

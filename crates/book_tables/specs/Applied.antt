@@ -13,7 +13,10 @@ use Rattle.book_tables.specs.declared.prepared.Effect.{Effect}
 use Rattle.book_tables.specs.declared.prepared.Effect.TheVariants as effect
 use Rattle.book_tables.specs.UserSets.{users_in, users_after, changed_numbered}
 use Rattle.book_tables.specs.Notices.{is_ready_mail_to, is_undecided, is_named, of_deal, readied, readied_if, dealt_to, IsInOrder}
+use Rattle.book_tables.specs.declared.preferences.Preference.{Preference}
 use Rattle.book_tables.specs.Preferences.{Preferred, preferred, default_preferred, preferred_after}
+use Rattle.mail_batches.specs.Batches.{shifted, settled}
+use Rattle.book_tables.specs.Batched.{BatchesAfter, period_in, WithNotices}
 
 -- the number of starts after an effect
 abbrev pub starts_after : Effect → ℕ → ℕ
@@ -67,15 +70,15 @@ messages_after _ messages = messages
 abbrev pub is_cleared : UserId → List DealNo → Waiting → Bool
 is_cleared user deals w = is_named user deals w && is_undecided w
 
--- the notices that wait after an effect at a stamp
-abbrev pub waiting_after : ℕ → Effect → List Waiting → List Waiting
-waiting_after at effect.Start waiting = map (readied at) waiting
-waiting_after at (effect.Message message new deal) waiting = waiting ++ new.items
-waiting_after at (effect.Dealt deal idle live) waiting = map (λ w. if of_deal deal w then dealt_to at (users_in idle) (users_in live) w else w) waiting
-waiting_after at (effect.Cleared user deals) waiting = filter (λ w. not (is_cleared user deals w)) waiting
-waiting_after at (effect.Missed user deals) waiting = map (λ w. readied_if (is_named user deals w) at w) waiting
-waiting_after at (effect.Mailed user entries off) waiting = filter (λ w. not (is_ready_mail_to user w)) waiting
-waiting_after at _ waiting = waiting
+-- the notices that wait after an effect
+abbrev pub waiting_after : Effect → List Waiting → List Waiting
+waiting_after effect.Start waiting = map readied waiting
+waiting_after (effect.Message message new deal) waiting = waiting ++ new.items
+waiting_after (effect.Dealt deal idle live) waiting = map (λ w. if of_deal deal w then dealt_to (users_in idle) (users_in live) w else w) waiting
+waiting_after (effect.Cleared user deals) waiting = filter (λ w. not (is_cleared user deals w)) waiting
+waiting_after (effect.Missed user deals) waiting = map (λ w. readied_if (is_named user deals w) w) waiting
+waiting_after (effect.Mailed user entries handed off) waiting = filter (λ w. not (is_ready_mail_to user w)) waiting
+waiting_after _ waiting = waiting
 
 -- how many notices a live queue cleared after an effect
 abbrev pub live_after : Effect → List Waiting → ℕ → ℕ
@@ -89,15 +92,20 @@ deals_after _ deals = deals
 
 -- the outbox after an effect
 abbrev pub outbox_after : Effect → List Entry → List Entry
-outbox_after (effect.Mailed user entries off) outbox = outbox ++ entries.items
+outbox_after (effect.Mailed user entries handed off) outbox = outbox ++ entries.items
 outbox_after _ outbox = outbox
+
+-- how many notices were handed over after an effect
+abbrev pub handed_after : Effect → ℕ → ℕ
+handed_after (effect.Mailed user entries handed off) before = min (before + handed) (2 ^ 64 - 1)
+handed_after _ before = before
 
 -- how many notices were switched off after an effect
 abbrev pub off_after : Effect → ℕ → ℕ
-off_after (effect.Mailed user entries off) before = min (before + off) (2 ^ 64 - 1)
+off_after (effect.Mailed user entries handed off) before = min (before + off) (2 ^ 64 - 1)
 off_after _ before = before
 
--- the tables after an effect at a stamp, the last stamp aside; the notices stood in their order before
+-- the tables after an effect at a stamp, the last stamp aside; they held what events leave
 pub record IsApplied (old new : Tables) (at : ℕ) (e : Effect) : Type 0 where
   pub starts : new.starts ≡ starts_after e old.starts
   pub names : new.names.items ≡ names_after e old.names.items
@@ -108,17 +116,31 @@ pub record IsApplied (old new : Tables) (at : ℕ) (e : Effect) : Type 0 where
   pub channels : new.channels.items ≡ channels_after e old.channels.items
   pub subscribers : map users_in new.subscribers.items ≡ subscribers_after e (map users_in old.subscribers.items)
   pub messages : new.messages.items ≡ messages_after e old.messages.items
-  pub waiting : IsInOrder old.waiting.items → new.waiting.items ≡ waiting_after at e old.waiting.items
+  pub waiting : new.waiting.items ≡ waiting_after e old.waiting.items
+  pub batches : BatchesAfter (period_in old.preferences.items) (period_in new.preferences.items) new.waiting.items at e old.batches new.batches
   pub deals : new.deals.items ≡ deals_after e old.deals.items
   pub outbox : new.outbox.items ≡ outbox_after e old.outbox.items
+  pub handed : new.handed ≡ handed_after e old.handed
   pub off : new.off ≡ off_after e old.off
-  pub live : IsInOrder old.waiting.items → new.live ≡ live_after e old.waiting.items old.live
+  pub live : new.live ≡ live_after e old.waiting.items old.live
 
 -- the tables after a user's undecided notices of these deals were taken out and counted
 pub record IsCleared (old new : Tables) (user : UserId) (deals : List DealNo) : Type 0 where
   pub rest : new ≡ record old { waiting = new.waiting; live = new.live }
   pub waiting : IsInOrder old.waiting.items → new.waiting.items ≡ filter (λ w. not (is_cleared user deals w)) old.waiting.items
   pub live : IsInOrder old.waiting.items → new.live ≡ min (old.live + length (filter (is_cleared user deals) old.waiting.items)) (2 ^ 64 - 1)
+
+-- the tables after a user's preference was changed
+pub record IsChanged (old new : Tables) (user : UserId) (change : Preference) : Type 0 where
+  pub rest : new ≡ record old { preferences = new.preferences; batches = new.batches }
+  pub preferences : map preferred new.preferences.items ≡ changed_numbered user.0 (preferred_after change) (map preferred old.preferences.items)
+  pub batches : new.batches ≡ shifted old.batches user (period_in old.preferences.items user) (period_in new.preferences.items user)
+
+-- the tables after a user's batch rows were taken out
+pub record IsSettled (old new : Tables) (user : UserId) : Type 0 where
+  pub rest : WithNotices old new
+  pub waiting : new.waiting.items ≡ filter (λ w. not (is_ready_mail_to user w)) old.waiting.items
+  pub batches : new.batches ≡ settled old.batches user
 
 -- the tables hold the same
 pub record HoldTheSame (old new : Tables) : Type 0 where
@@ -133,7 +155,9 @@ pub record HoldTheSame (old new : Tables) : Type 0 where
   pub subscribers : map users_in new.subscribers.items ≡ map users_in old.subscribers.items
   pub messages : new.messages.items ≡ old.messages.items
   pub waiting : new.waiting.items ≡ old.waiting.items
+  pub batches : new.batches.batches ≡ old.batches.batches
   pub deals : new.deals.items ≡ old.deals.items
   pub outbox : new.outbox.items ≡ old.outbox.items
+  pub handed : new.handed ≡ old.handed
   pub off : new.off ≡ old.off
   pub live : new.live ≡ old.live

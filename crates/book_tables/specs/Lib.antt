@@ -5,6 +5,7 @@ pub mod Notices
 pub mod Tables
 pub mod Gathered
 pub mod Rules
+pub mod Batched
 pub mod Applied
 pub mod Rooms
 pub mod Prepared

@@ -1,53 +1,39 @@
 -- The notices that wait, as the tables keep them: which one is sought, in which order they stand, and how one moves on.
-use Rattle.std.specs.Prelude.{◌≡◌, ℕ, zero, suc, ◌-◌, Bool, true, false, not, ◌&&◌, ◌||◌, ◌==◌, nat_lt, List, [], ◌∷◌, Option, Some, None, take, drop}
-use Rattle.std.specs.List.{AllByRecursion, flat_map}
+use Rattle.std.specs.Prelude.{◌≡◌, ℕ, zero, suc, ◌+◌, ◌-◌, Bool, true, false, not, ◌&&◌, ◌||◌, ◌==◌, nat_lt, List, [], ◌∷◌, Option, Some, None, take, drop}
+use Rattle.std.specs.List.{AllByRecursion, flat_map, list_any}
 use Rattle.chat_model.specs.declared.ids.DealNo.{DealNo}
+use Rattle.chat_model.specs.declared.ids.MessageId.{MessageId}
 use Rattle.chat_model.specs.declared.ids.UserId.{UserId}
-use Rattle.chat_model.specs.declared.row.Stage.{Stage}
-use Rattle.chat_model.specs.declared.row.Stage.TheVariants as stage
 use Rattle.chat_model.specs.declared.trigger.Way.{Way}
 use Rattle.chat_model.specs.declared.trigger.Way.TheVariants.{Mail, Push}
 use Rattle.chat_model.specs.Outcomes.{has_deal}
 use Rattle.notice_ledger.specs.Past.Values.{is_one_of}
-use Rattle.book_tables.specs.declared.tables.Standing.{Standing}
-use Rattle.book_tables.specs.declared.tables.Standing.TheVariants.{Flight, Held, Ready}
+use Rattle.chat_model.specs.declared.row.Stage.{Stage}
+use Rattle.chat_model.specs.declared.row.Stage.TheVariants.{Flight, Held, Ready}
 use Rattle.book_tables.specs.declared.tables.Waiting.{Waiting}
 
 -- ---- one notice
 
-abbrev pub is_ready_standing : Standing → Bool
-is_ready_standing (Ready since) = true
-is_ready_standing _ = false
+abbrev pub is_ready_stage : Stage → Bool
+is_ready_stage Ready = true
+is_ready_stage _ = false
 
 abbrev pub is_ready : Waiting → Bool
-is_ready w = is_ready_standing w.standing
-
--- the stamp of the event that made a notice ready
-abbrev pub since : Standing → Option ℕ
-since (Ready at) = Some at
-since _ = None
+is_ready w = is_ready_stage w.stage
 
 -- in flight or held
 abbrev pub is_undecided : Waiting → Bool
 is_undecided w = not (is_ready w)
 
--- how far it has come, as its row says it
-abbrev pub stage_by : Standing → Stage
-stage_by Flight = stage.Flight
-stage_by Held = stage.Held
-stage_by (Ready since) = stage.Ready
-
-abbrev pub stage_of : Waiting → Stage
-stage_of w = stage_by w.standing
-
 abbrev pub same_stage : Stage → Stage → Bool
-same_stage stage.Flight stage.Flight = true
-same_stage stage.Held stage.Held = true
-same_stage stage.Ready stage.Ready = true
+same_stage Flight Flight = true
+same_stage Held Held = true
+same_stage Ready Ready = true
 same_stage _ _ = false
 
+-- it has come this far and no further
 abbrev pub is_at_stage : Stage → Waiting → Bool
-is_at_stage g w = same_stage (stage_of w) g
+is_at_stage g w = same_stage w.stage g
 
 -- a user's mail notice stands before the push
 abbrev pub rank : Way → ℕ
@@ -61,6 +47,10 @@ is_mail_to u w = w.user.0 == u.0 && rank w.way == 0
 -- and ready
 abbrev pub is_ready_mail_to : UserId → Waiting → Bool
 is_ready_mail_to u w = is_mail_to u w && is_ready w
+
+-- a mail notice, and undecided
+abbrev pub is_undecided_mail : Waiting → Bool
+is_undecided_mail w = rank w.way == 0 && is_undecided w
 
 -- ---- which one
 
@@ -77,6 +67,14 @@ is_undecided_at k u way w = is_at k u way w && is_undecided w
 
 abbrev pub is_undecided_of : DealNo → Waiting → Bool
 is_undecided_of k w = of_deal k w && is_undecided w
+
+-- the user's batch row of a message
+abbrev pub is_batch_row : UserId → MessageId → Waiting → Bool
+is_batch_row u m w = is_ready_mail_to u w && w.message.0 == m.0
+
+-- and of one of these messages
+abbrev pub is_one_batch_row : UserId → List MessageId → Waiting → Bool
+is_one_batch_row u ms w = is_ready_mail_to u w && list_any (λ m. w.message.0 == m.0) ms
 
 -- a user's notice of one of these deals
 abbrev pub is_named : UserId → List DealNo → Waiting → Bool
@@ -99,6 +97,10 @@ Precedes v w = is_before w.deal w.user w.way v ≡ true
 abbrev pub IsInOrder : List Waiting → Type 0
 IsInOrder [] = Unit {0}
 IsInOrder (w ∷ ws) = AllByRecursion (Precedes w) ws × IsInOrder ws
+
+-- each is of the message of its deal: each send makes one
+abbrev pub AreNumbered : List Waiting → Type 0
+AreNumbered ws = AllByRecursion (λ w. w.message.0 ≡ w.deal.0 + 1) ws
 
 -- no notice passes the test
 abbrev pub NonePasses : (Waiting → Bool) → List Waiting → Type 0
@@ -123,25 +125,30 @@ pub record IsStretchOf (test : Waiting → Bool) (from to : ℕ) (ws : List Wait
 
 -- ---- how one moves on
 
--- an undecided one becomes ready by a stamp, where it does
-abbrev pub ready_if : Bool → ℕ → Standing → Standing
-ready_if true at Flight = Ready at
-ready_if true at Held = Ready at
-ready_if true at (Ready since) = Ready since
-ready_if false at standing = standing
+-- an undecided one becomes ready, where it does
+abbrev pub ready_if : Bool → Stage → Stage
+ready_if true g = Ready
+ready_if false g = g
 
-abbrev pub readied_if : Bool → ℕ → Waiting → Waiting
-readied_if readies at w = record w { standing = ready_if readies at w.standing }
+abbrev pub readied_if : Bool → Waiting → Waiting
+readied_if readies w = record w { stage = ready_if readies w.stage }
 
-abbrev pub readied : ℕ → Waiting → Waiting
-readied at w = readied_if true at w
+abbrev pub readied : Waiting → Waiting
+readied w = readied_if true w
 
--- where its deal is dealt: ready where it readies, else held
-abbrev pub dealt_by : Bool → ℕ → Standing → Standing
-dealt_by true at standing = ready_if true at standing
-dealt_by false at Flight = Held
-dealt_by false at standing = standing
+-- it becomes ready, or is held at least
+abbrev pub dealt_by : Bool → Stage → Stage
+dealt_by true g = Ready
+dealt_by false Flight = Held
+dealt_by false g = g
 
--- where its user was found idle, or live while it is a push that goes to who is online
-abbrev pub dealt_to : ℕ → List UserId → List UserId → Waiting → Waiting
-dealt_to at idle live w = record w { standing = dealt_by (is_one_of idle w.user || (w.online && is_one_of live w.user)) at w.standing }
+abbrev pub moved : Bool → Waiting → Waiting
+moved readies w = record w { stage = dealt_by readies w.stage }
+
+-- its user was found idle, or live while it is a push that goes to who is online
+abbrev pub goes_ready : List UserId → List UserId → Waiting → Bool
+goes_ready idle live w = is_one_of idle w.user || (w.online && is_one_of live w.user)
+
+-- where its deal is dealt
+abbrev pub dealt_to : List UserId → List UserId → Waiting → Waiting
+dealt_to idle live w = moved (goes_ready idle live w) w

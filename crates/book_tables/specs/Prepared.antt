@@ -5,6 +5,7 @@ use Rattle.chat_model.specs.declared.event.Event.{Event}
 use Rattle.chat_model.specs.declared.event.Event.TheVariants.{Restart, Asked, Absorbed, MailTurn}
 use Rattle.chat_model.specs.declared.request.Request.TheVariants.{AddUser, AddGroup, Member, AddChannel, Subscribe, Set, SetChannel, SetPolicy, Mute, Send, Direct}
 use Rattle.chat_model.specs.declared.ids.UserId.{UserId}
+use Rattle.chat_model.specs.declared.ids.MessageId.{MessageId}
 use Rattle.chat_model.specs.declared.mentions.GroupName.{GroupName}
 use Rattle.chat_model.specs.declared.row.Row.{Row}
 use Rattle.chat_model.specs.declared.row.Row.TheVariants as row
@@ -13,6 +14,7 @@ use Rattle.chat_model.specs.declared.row.RowKey.TheVariants as key
 use Rattle.chat_model.specs.declared.row.RowChange.{RowChange}
 use Rattle.chat_model.specs.declared.row.RowChange.TheVariants.{Put, Remove}
 use Rattle.chat_model.specs.declared.deal.UserVerdict.{UserVerdict}
+use Rattle.chat_model.specs.declared.trigger.Way.TheVariants.{Mail}
 use Rattle.chat_model.specs.declared.deal.Outcome.TheVariants.{Dealt, Cleared, Missed}
 use Rattle.chat_model.specs.declared.ids.DealNo.{DealNo}
 use Rattle.chat_model.specs.Outcomes.{gives_idle, gives_live}
@@ -23,7 +25,7 @@ use Rattle.notice_ledger.specs.Past.Journal.{occurrence}
 use Rattle.notice_ledger.specs.Past.Values.{people, groups, is_one_of}
 use Rattle.notice_ledger.specs.Past.Owed.{owed_by}
 use Rattle.notice_ledger.specs.Past.Deals.{deal_of}
-use Rattle.notice_ledger.specs.Past.Outbox.{mail_entries}
+use Rattle.notice_ledger.specs.Past.Outbox.{mail_items, mail_entries}
 use Rattle.notice_ledger.specs.Past.Rows.{rows}
 use Rattle.notice_ledger.specs.Lawful.{lawful, is_lawful_after}
 use Rattle.book_tables.specs.declared.tables.Message.{Message}
@@ -37,11 +39,10 @@ use Rattle.notice_ledger.specs.declared.destination.Destination.{Destination}
 use Rattle.notice_ledger.specs.declared.destination.Destination.TheVariants as destination
 use Rattle.book_tables.specs.declared.preferences.Preference.TheVariants as preference
 use Rattle.book_tables.specs.Tables.{StandsFor, in_flight, send_of, switched_at}
-use Rattle.book_tables.specs.Notices.{stage_of}
 
 -- the row of a notice that waits
 abbrev pub notice_row : Waiting → Row
-notice_row w = row.Pending w.user w.message w.way w.trigger w.deal (stage_of w)
+notice_row w = row.Pending w.user w.message w.way w.trigger w.deal w.stage
 
 -- the key of a notice's row
 abbrev pub key_of_notice : Waiting → RowKey
@@ -71,10 +72,14 @@ IsDealt (effect.Dealt deal idle live) k verdicts =
     (deal ≡ k) × ((u : UserId) → is_one_of (users_in idle) u ≡ gives_idle verdicts u) × ((u : UserId) → is_one_of (users_in live) u ≡ gives_live verdicts u)
 IsDealt _ k verdicts = ⊥
 
--- the effect hands these entries to the user, and switches so many notices off
-abbrev pub IsMailed : Effect → UserId → List Entry → ℕ → Type 0
-IsMailed (effect.Mailed user entries off) u es n = (user ≡ u) × (entries.items ≡ es) × (off ≡ n)
-IsMailed _ u es n = ⊥
+-- the row of a user's mail notice of a message goes
+abbrev pub removed_mail : UserId → MessageId → RowChange
+removed_mail u m = Remove (key.Pending u m Mail)
+
+-- the effect hands so many notices over to the user in these entries, and switches so many off
+abbrev pub IsMailed : Effect → UserId → List Entry → ℕ → ℕ → Type 0
+IsMailed (effect.Mailed user entries handed off) u es h n = (user ≡ u) × (entries.items ≡ es) × (handed ≡ h) × (off ≡ n)
+IsMailed _ u es h n = ⊥
 
 -- the effect adds the message of a send with what it owes
 abbrev pub IsSendOf : List Stamped → ℕ → UserId → Destination → List ℕ → Effect → Type 0
@@ -99,7 +104,7 @@ IsEffectOf past at (Asked (Direct sender to text)) e = IsSendOf past at sender (
 IsEffectOf past at (Absorbed (Dealt deal verdicts)) e = IsDealt e deal verdicts
 IsEffectOf past at (Absorbed (Cleared user deals queue)) e = e ≡ effect.Cleared user deals
 IsEffectOf past at (Absorbed (Missed user deals)) e = e ≡ effect.Missed user deals
-IsEffectOf past at (MailTurn user) e = IsMailed e user (mail_entries past at user) (switched_at past user)
+IsEffectOf past at (MailTurn user) e = IsMailed e user (mail_entries past at user) (length (mail_items past user)) (switched_at past user)
 
 -- it was prepared for this event behind these, which all count: its changes make of the rows of these those with the event
 pub record Follows (past : List Stamped) (s : Stamped) (p : Prepared) : Type 0 where
@@ -114,6 +119,10 @@ IsPreparedFor j s p = Follows (lawful j) s p
 -- the event may stand next, after a journal for which the tables stand
 abbrev pub MayFollow : Tables → Stamped → Type 0
 MayFollow t s = (j : List Stamped) × (StandsFor t j) × (is_lawful_after j s ≡ true)
+
+-- it was prepared from these tables, which stand for a journal, for an event that is lawful then
+abbrev pub WasPrepared : Tables → Prepared → Type 0
+WasPrepared t p = (j : List Stamped) × (s : Stamped) × (StandsFor t j) × (is_lawful_after j s ≡ true) × (IsPreparedFor j s p)
 
 -- the changes of the rows that were prepared
 abbrev pub changes_of : Prepared → List RowChange

@@ -1,16 +1,18 @@
 -- The room that an effect needs in the tables.
-use Rattle.std.specs.Prelude.{◌≡◌, ◌+◌, ◌<◌, ◌≤◌, true, IfSome, vec_len, vec_capacity}
+use Rattle.std.specs.Prelude.{◌≡◌, ◌+◌, ◌<◌, ◌≤◌, true, IfSome, length, filter, vec_len, vec_capacity}
 use Rattle.notice_ledger.specs.Past.Values.{numbered}
 use Rattle.book_tables.specs.declared.tables.Tables.{Tables}
 use Rattle.book_tables.specs.declared.prepared.Effect.{Effect}
 use Rattle.book_tables.specs.declared.prepared.Effect.TheVariants as effect
 use Rattle.book_tables.specs.declared.prepared.Prepared.{Prepared}
+use Rattle.book_tables.specs.Notices.{of_deal, IsInOrder}
 use Rattle.book_tables.specs.Preferences.{HasPlaceFor}
 use Rattle.book_tables.specs.UserSets.{HasPlace}
 
--- the tables have room for the effect: a user who leaves a set needs none
+-- the tables have room for the effect: a user who leaves a set needs none, and each notice that becomes ready may be a row of
+-- a batch
 abbrev pub HasRoom : Tables → Effect → Type 0
-HasRoom t effect.Start = Unit {0}
+HasRoom t effect.Start = length t.waiting.items ≤ t.batches.spare
 HasRoom t (effect.User user bot) = (vec_len t.names < vec_capacity t.names) × (vec_len t.bots < vec_capacity t.bots) × (vec_len t.preferences < vec_capacity t.preferences)
 HasRoom t (effect.Preference user change) = IfSome (numbered user.0 t.preferences.items) (HasPlaceFor change)
 HasRoom t (effect.Group group members) = (vec_len t.groups < vec_capacity t.groups) × (vec_len t.members < vec_capacity t.members)
@@ -20,10 +22,10 @@ HasRoom t (effect.Subscription channel user on) = on ≡ true → IfSome (number
 HasRoom t (effect.Message message waiting deal) =
     (vec_len t.messages < vec_capacity t.messages) × (vec_len t.waiting + vec_len waiting ≤ vec_capacity t.waiting)
     × (vec_len t.deals < vec_capacity t.deals)
-HasRoom t (effect.Dealt deal idle live) = Unit {0}
+HasRoom t (effect.Dealt deal idle live) = IsInOrder t.waiting.items → length (filter (of_deal deal) t.waiting.items) ≤ t.batches.spare
 HasRoom t (effect.Cleared user deals) = Unit {0}
-HasRoom t (effect.Missed user deals) = Unit {0}
-HasRoom t (effect.Mailed user entries off) = vec_len t.outbox + vec_len entries ≤ vec_capacity t.outbox
+HasRoom t (effect.Missed user deals) = length deals ≤ t.batches.spare
+HasRoom t (effect.Mailed user entries handed off) = vec_len t.outbox + vec_len entries ≤ vec_capacity t.outbox
 
 -- the tables have room for what was prepared
 abbrev pub HasRoomFor : Tables → Prepared → Type 0

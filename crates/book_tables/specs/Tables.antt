@@ -1,5 +1,5 @@
 -- When the tables stand for a journal.
-use Rattle.std.specs.Prelude.{◌≡◌, ℕ, Bool, true, false, List, [], ◌∷◌, Option, Some, None, option_map, length, map, if◌then◌else◌}
+use Rattle.std.specs.Prelude.{◌≡◌, ℕ, Bool, true, false, List, [], ◌∷◌, is_some, length, map, IsPermutation, if◌then◌else◌}
 use Rattle.std.specs.List.{filter_map}
 use Rattle.chat_model.specs.declared.event.Stamped.{Stamped}
 use Rattle.chat_model.specs.declared.event.Event.TheVariants.{Asked}
@@ -12,21 +12,22 @@ use Rattle.chat_model.specs.declared.row.Cause.TheVariants.{SwitchedOff}
 use Rattle.chat_model.specs.declared.trigger.Way.TheVariants as ways
 use Rattle.notice_ledger.specs.Past.Journal.{last_stamp, occurrence}
 use Rattle.notice_ledger.specs.Past.Values.{SentMessage, people, user_names, groups, group_names, is_member, channels, messages, subscribed}
-use Rattle.notice_ledger.specs.declared.accounts.Account.TheVariants.{Cancelled, LiveQueue}
+use Rattle.notice_ledger.specs.declared.accounts.Account.TheVariants.{Handed, Cancelled, LiveQueue}
 use Rattle.notice_ledger.specs.declared.destination.Destination.{Destination}
 use Rattle.notice_ledger.specs.declared.destination.Destination.TheVariants as destination
 use Rattle.notice_ledger.specs.Past.Owed.{Notice, notice_of, pushes_online, ready, was_dealt, waiting, switch_on}
 use Rattle.notice_ledger.specs.Past.Deals.{deals}
 pub use Rattle.notice_ledger.specs.Past.Runs.{start_count}
-use Rattle.notice_ledger.specs.Past.Due.{DueUser, batch_rows}
+use Rattle.notice_ledger.specs.Past.Due.{DueUser, batch_rows, due}
 use Rattle.notice_ledger.specs.Past.Outbox.{outbox}
 use Rattle.notice_ledger.specs.Past.Audit.{in_64_bits, owed_with}
 use Rattle.notice_ledger.specs.Lawful.{lawful}
+use Rattle.mail_batches.specs.Batches.{Waiting as Batches, due_of, rows_of}
+use Rattle.mail_batches.specs.declared.batches.DueUser.{DueUser as FoundDue}
 use Rattle.book_tables.specs.declared.tables.Message.{Message}
-use Rattle.book_tables.specs.declared.tables.Standing.{Standing}
-use Rattle.book_tables.specs.declared.tables.Standing.TheVariants.{Flight, Held, Ready}
+use Rattle.chat_model.specs.declared.row.Stage.{Stage}
+use Rattle.chat_model.specs.declared.row.Stage.TheVariants.{Flight, Held, Ready}
 use Rattle.book_tables.specs.declared.tables.Waiting.{Waiting}
-use Rattle.book_tables.specs.declared.tables.DueUser.{DueUser as FoundDue}
 use Rattle.book_tables.specs.declared.tables.Tables.{Tables}
 use Rattle.book_tables.specs.UserSets.{has_in, AreUserSets}
 use Rattle.book_tables.specs.Preferences.{preferred_in, preferred_by}
@@ -35,19 +36,19 @@ use Rattle.book_tables.specs.Preferences.{preferred_in, preferred_by}
 abbrev pub message_kept : SentMessage → Message
 message_kept m = record { sender = m.sender; to = m.to; text = m.text }
 
--- how far a notice that waits has come, by whether its deal was absorbed and by the stamp of its ready event
-abbrev pub standing_by : Bool → Option ℕ → Standing
-standing_by dealt (Some at) = Ready at
-standing_by true None = Held
-standing_by false None = Flight
+-- how far a notice that waits has come, by whether its deal was absorbed and whether it has a ready event
+abbrev pub stage_by : Bool → Bool → Stage
+stage_by dealt true = Ready
+stage_by true false = Held
+stage_by false false = Flight
 
 -- a notice with how far it has come
-abbrev pub notice_at : Standing → Notice → Waiting
-notice_at standing n = record { user = n.user; message = n.number; way = n.way; trigger = n.trigger; deal = n.deal; via = n.via; online = pushes_online n; standing = standing }
+abbrev pub notice_at : Stage → Notice → Waiting
+notice_at g n = record { user = n.user; message = n.number; way = n.way; trigger = n.trigger; deal = n.deal; via = n.via; online = pushes_online n; stage = g }
 
 -- a notice that waits, as the tables keep it
 abbrev pub notice_kept : List Stamped → Notice → Waiting
-notice_kept j n = notice_at (standing_by (was_dealt j n) (option_map (λ o. o.at) (ready j n))) n
+notice_kept j n = notice_at (stage_by (was_dealt j n) (is_some (ready j n))) n
 
 -- a notice that was just owed
 abbrev pub in_flight : Notice → Waiting
@@ -74,6 +75,11 @@ owed_user past at m u = map in_flight (filter_map (notice_of (occurrence past (s
 abbrev pub switched_at : List Stamped → UserId → ℕ
 switched_at past u = if switch_on past u ways.Mail then 0 else length (batch_rows past u)
 
+-- the batches hold what these events leave: each user's batch rows by their messages, in some order, and due moment
+pub record HoldBatches (b : Batches) (past : List Stamped) : Type 0 where
+  pub rows : (u : UserId) → IsPermutation (map (λ n. n.number) (batch_rows past u)) (rows_of b u)
+  pub due : (u : UserId) → due_of b u ≡ due past u
+
 -- the tables hold what these events, which all count, leave
 pub record Holds (t : Tables) (past : List Stamped) : Type 0 where
   pub last : t.last ≡ last_stamp past
@@ -90,14 +96,20 @@ pub record Holds (t : Tables) (past : List Stamped) : Type 0 where
   pub channels : t.channels.items ≡ channels past
   pub messages : t.messages.items ≡ map message_kept (messages past)
   pub waiting : t.waiting.items ≡ map (notice_kept past) (waiting past)
+  pub batches : HoldBatches t.batches past
   pub deals : t.deals.items ≡ deals past
   pub outbox : t.outbox.items ≡ outbox past
+  pub handed : t.handed ≡ in_64_bits (owed_with past Handed)
   pub off : t.off ≡ in_64_bits (owed_with past (Cancelled SwitchedOff))
   pub live : t.live ≡ in_64_bits (owed_with past LiveQueue)
 
 -- the tables stand for a list of events: they hold what its lawful events leave
 abbrev pub StandsFor : Tables → List Stamped → Type 0
 StandsFor t j = Holds t (lawful j)
+
+-- the tables hold what some events leave
+abbrev pub HoldSome : Tables → Type 0
+HoldSome t = (past : List Stamped) × Holds t past
 
 -- what a search for the least due moment found
 abbrev pub found_due : FoundDue → DueUser

@@ -2,16 +2,19 @@
 ghost use Rattle.std.specs.Prelude.{◌≡◌, true, List, ◌∷◌, [], ◌++◌, OnOk};
 ghost use Rattle.chat_model.specs.declared.event.Stamped.{Stamped};
 ghost use Rattle.notice_ledger.specs.Lawful.{is_lawful_after};
-ghost use Rattle.book_tables.specs.Applied.{IsApplied, IsCleared, HoldTheSame};
+ghost use Rattle.book_tables.specs.Batched.{IsSound, FitsPeriod};
+ghost use Rattle.book_tables.specs.Applied.{IsApplied, IsCleared, IsChanged, IsSettled, HoldTheSame};
 ghost use Rattle.book_tables.specs.Rooms.{HasRoom, HasRoomFor};
-ghost use Rattle.book_tables.specs.Prepared.{IsPreparedFor};
+ghost use Rattle.book_tables.specs.Prepared.{IsPreparedFor, WasPrepared};
 
-use crate::preferences::{Preferences, change_preference, reserve_preference};
+use crate::preferences::{
+    Preference, Preferences, change_preference, period_of, reserve_preference,
+};
 use crate::prepared::{Effect, Prepared};
 use crate::sets::{change_set, reserve_in_set};
 use crate::tables::Tables;
 use crate::user_set::UserSet;
-use crate::waiting::{clear_named, deal_out, ready_all, ready_named};
+use crate::waiting::{clear_named, find_deal, take_batch_rows};
 use chat_model::{DealNo, Moment, OutOfMemory, UserId};
 
 impl Tables {
@@ -23,10 +26,13 @@ impl Tables {
         ensures ok { OnOk result (HasRoom self.new effect.now) }
     {
         match effect {
-            Effect::Start => Ok(()),
-            Effect::Dealt { .. } => Ok(()),
+            Effect::Start => self.batches.reserve(self.waiting.len()),
+            Effect::Dealt { deal, .. } => {
+                let stretch = find_deal(&self.waiting, *deal);
+                self.batches.reserve(stretch.to - stretch.from)
+            }
             Effect::Cleared { .. } => Ok(()),
-            Effect::Missed { .. } => Ok(()),
+            Effect::Missed { deals, .. } => self.batches.reserve(deals.as_slice().len()),
             Effect::User { .. } => {
                 self.names.reserve(1)?;
                 self.bots.reserve(1)?;
@@ -75,19 +81,45 @@ impl Tables {
         self.live = self.live.saturating_add(cleared as u64);
     }
 
+    /// Changes what the user prefers. A new period moves the user's due moment by itself less the old one.
+    fn change(&mut self, user: UserId, change: Preference)
+        requires sound { IsSound self.old }
+        requires period { FitsPeriod self.old (Effect.Preference user change) }
+        requires room { HasRoom self.old (Effect.Preference user change) }
+        ensures { IsChanged self.old self.new user change }
+    {
+        // So no due moment lies 2^37 seconds or more behind the period.
+        prove!(self.last.seconds() < 1 << 37);
+        let before = period_of(&self.preferences, user);
+        change_preference(&mut self.preferences, user.0, change);
+        let after = period_of(&self.preferences, user);
+        self.batches.shift(user, before, after);
+    }
+
+    /// Takes the user's batch rows out.
+    fn settle(&mut self, user: UserId)
+        requires { IsSound self.old }
+        ensures { IsSettled self.old self.new user }
+    {
+        take_batch_rows(&mut self.waiting, user, self.batches.rows(user));
+        self.batches.settle(user);
+    }
+
     /// Makes the effect at a stamp.
     fn make(&mut self, at: Moment, effect: Effect)
-        requires { HasRoom self.old effect }
+        requires room { HasRoom self.old effect }
+        requires sound { IsSound self.old }
+        requires period { FitsPeriod self.old effect }
         ensures { IsApplied self.old self.new at effect }
     {
         match effect {
             Effect::Start => {
                 self.starts = self.starts.saturating_add(1);
-                ready_all(&mut self.waiting, at);
+                self.ready_all(at);
                 return;
             }
             Effect::Dealt { deal, idle, live } => {
-                deal_out(&mut self.waiting, at, deal, &idle, &live);
+                self.deal_out(at, deal, &idle, &live);
                 return;
             }
             Effect::Cleared { user, deals } => {
@@ -95,7 +127,7 @@ impl Tables {
                 return;
             }
             Effect::Missed { user, deals } => {
-                ready_named(&mut self.waiting, at, user, deals.as_slice());
+                self.ready_named(at, user, deals.as_slice());
                 return;
             }
             Effect::User { user, bot } => {
@@ -125,7 +157,7 @@ impl Tables {
                 return;
             }
             Effect::Preference { user, change } => {
-                change_preference(&mut self.preferences, user.0, change);
+                self.change(user, change);
                 return;
             }
             Effect::Message {
@@ -141,10 +173,12 @@ impl Tables {
             Effect::Mailed {
                 user,
                 mut entries,
+                handed,
                 off,
             } => {
-                self.waiting.retain(|notice| !notice.is_ready_mail_to(user));
+                self.settle(user);
                 self.outbox.append(&mut entries).unwrap();
+                self.handed = self.handed.saturating_add(handed);
                 self.off = self.off.saturating_add(off);
                 return;
             }
@@ -159,9 +193,10 @@ impl Tables {
         self.make_room(&prepared.effect)
     }
 
-    /// Makes what was prepared for a lawful event. There is room for it, and it takes no memory.
+    /// Makes what was prepared from these tables for a lawful event. There is room for it, and it takes no memory.
     pub fn apply(&mut self, prepared: Prepared)
-        requires { HasRoomFor self.old prepared }
+        requires room { HasRoomFor self.old prepared }
+        requires prepared { WasPrepared self.old prepared }
         ensures { (j : List Stamped) (event : Stamped) → StandsFor self.old j → is_lawful_after j event ≡ true → IsPreparedFor j event prepared → StandsFor self.new (j ++ event ∷ []) }
     {
         let Prepared { at, effect, .. } = prepared;

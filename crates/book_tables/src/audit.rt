@@ -24,18 +24,16 @@ impl Tables {
     pub fn audit(&self) -> Counts
         ensures { (j : List Stamped) → StandsFor self.now j → result ≡ counts_of j }
     {
-        let entries = self.outbox.len() as u64;
         Counts {
             flight: count_at(&self.waiting, Stage::Flight) as u64,
             held: count_at(&self.waiting, Stage::Held) as u64,
             ready: count_at(&self.waiting, Stage::Ready) as u64,
-            // Each entry has one item.
-            handed: entries,
+            handed: self.handed,
             read: 0,
             deleted: 0,
             off: self.off,
             live: self.live,
-            entries,
+            entries: self.outbox.len() as u64,
             waiting: 0,
             written: 0,
         }

@@ -1,35 +1,26 @@
 //! The entries of a mail turn.
-ghost use Rattle.std.specs.Prelude.{◌≡◌, List, length, map, filter, IfOk};
+ghost use Rattle.std.specs.Prelude.{◌≡◌, List, length, map, IfOk, IsPermutation};
 ghost use Rattle.chat_model.specs.declared.event.Stamped.{Stamped};
 ghost use Rattle.notice_ledger.specs.Past.Owed.{Notice};
 ghost use Rattle.chat_model.specs.declared.trigger.Way.{Way};
 ghost use Rattle.notice_ledger.specs.Past.Owed.{switch_on};
-ghost use Rattle.notice_ledger.specs.Past.Outbox.{by_message, mailed, conversation_of, mail_entry, mail_entries};
-ghost use Rattle.notice_ledger.specs.Due.{batch_rows};
+ghost use Rattle.notice_ledger.specs.Past.Outbox.{mailed, conversation_of, ready_item, mail_items, mail_entries};
+ghost use Rattle.notice_ledger.specs.Outbox.{dropped};
 ghost use Rattle.book_tables.specs.Tables.{switched_at};
-ghost use Rattle.book_tables.specs.Notices.{is_ready_mail_to};
 
 use crate::tables::{Message, Tables, Waiting, item_at};
+use crate::waiting::find_batch_row;
 use chat_model::{
-    Conversation, Entry, GroupId, GroupName, Item, List, Moment, OutOfMemory, Text, UserId,
-    ascending_users,
+    Conversation, Entry, GroupId, GroupName, Item, List as ItemList, Moment, OutOfMemory, Text,
+    UserId, ascending_users,
 };
+use mail_batches::{ReadyItem, entries};
 use notice_ledger::Destination;
-
-/// How many mail notices of the user are ready.
-fn count_mails(waiting: &[Waiting], user: UserId) -> usize
-    ensures { result ≡ length (filter (is_ready_mail_to user) waiting.now) }
-{
-    waiting
-        .iter()
-        .filter(|notice| notice.is_ready_mail_to(user))
-        .count()
-}
 
 impl Tables {
     ghost use Rattle.notice_ledger.specs.Past.Outbox.{named_group};
     ghost use Rattle.std.specs.Prelude.{option_map};
-    ghost use Rattle.book_tables.specs.Tables.{Holds, StandsFor, message_kept, notice_kept};
+    ghost use Rattle.book_tables.specs.Tables.{Holds, HoldSome, StandsFor, message_kept, notice_kept};
 
     /// The group by which a mention came, with its name.
     fn named_via(&self, via: Option<GroupId>) -> Result<Option<GroupName>, OutOfMemory>
@@ -62,46 +53,35 @@ impl Tables {
         }
     }
 
-    fn mail_entry(
-        &self,
-        at: Moment,
-        notice: &Waiting,
-        message: &Message,
-    ) -> Result<Entry, OutOfMemory>
-        ensures { IfOk result (λ entry. (past : List Stamped) (n : Notice) → Holds self.now past → notice.now ≡ notice_kept past n → message.now ≡ message_kept n.message → entry ≡ mail_entry past at n) }
+    /// What a mail turn hands over of a notice, with the conversation of its message.
+    fn ready_item(&self, notice: &Waiting, message: &Message) -> Result<ReadyItem, OutOfMemory>
+        ensures { IfOk result (λ made. (past : List Stamped) (n : Notice) → Holds self.now past → notice.now ≡ notice_kept past n → message.now ≡ message_kept n.message → made ≡ ready_item past n) }
     {
-        let alloc = self.alloc;
-        let mut items = List::new(alloc);
-        items.push(Item {
+        let conversation = self.conversation(message.sender, &message.to)?;
+        let item = Item {
             message: notice.message,
             sender: message.sender,
-            sender_name: Text::from_str(alloc, self.name(message.sender))?,
+            sender_name: Text::from_str(self.alloc, self.name(message.sender))?,
             trigger: notice.trigger,
             via: self.named_via(notice.via)?,
             text: message.text.copy()?,
-        })?;
-        Ok(Entry::Mail {
-            user: notice.user,
-            name: Text::from_str(alloc, self.name(notice.user))?,
-            at,
-            conversation: self.conversation(message.sender, &message.to)?,
-            items,
-        })
+        };
+        Ok(ReadyItem { conversation, item })
     }
 
-    /// The entries of the user's mail notices that are ready, each message one of its own.
-    fn waiting_entries(&self, at: Moment, user: UserId) -> Result<Vec<Entry>, OutOfMemory>
-        ensures { IfOk result (λ entries. (past : List Stamped) → Holds self.now past → entries.items ≡ map (mail_entry past at) (by_message (mailed past user))) }
+    /// What the user's mail turn hands over of the batch rows, each of which is sought among the notices that wait.
+    fn ready_items(&self, user: UserId) -> Result<ItemList<ReadyItem>, OutOfMemory>
+        ensures { IfOk result (λ items. (past : List Stamped) → Holds self.now past → IsPermutation (map (ready_item past) (mailed past user)) items) }
     {
-        let mut entries = Vec::new(self.alloc);
-        for notice in &self.waiting {
-            if notice.is_ready_mail_to(user) {
-                if let Some(message) = item_at(&self.messages, notice.message.0) {
-                    entries.push(self.mail_entry(at, notice, message)?)?;
+        let mut items = ItemList::new(self.alloc);
+        for message in self.batches.rows(user) {
+            if let Some(place) = find_batch_row(&self.waiting, user, *message) {
+                if let Some(sent) = item_at(&self.messages, message.0) {
+                    items.push(self.ready_item(&self.waiting[place], sent)?)?;
                 }
             }
         }
-        Ok(entries)
+        Ok(items)
     }
 
     /// Whether the user's switch for mails is on.
@@ -113,13 +93,27 @@ impl Tables {
 
     /// The entries of the user's mail turn at a stamp: none where the switch is off.
     pub(crate) fn mail_entries(&self, at: Moment, user: UserId) -> Result<Vec<Entry>, OutOfMemory>
+        requires { HoldSome self.now }
         ensures { IfOk result (λ entries. (past : List Stamped) → Holds self.now past → entries.items ≡ mail_entries past at user) }
     {
         if !self.is_switch_on(user) {
             return Ok(Vec::new(self.alloc));
         }
-        let entries = self.waiting_entries(at, user)?;
-        Ok(entries)
+        let items = self.ready_items(user)?;
+        let name = Text::from_str(self.alloc, self.name(user))?;
+        let entries = entries(self.alloc, user, &name, at, items)?;
+        Ok(entries.into_vec())
+    }
+
+    /// How many notices the user's mail turn hands over.
+    pub(crate) fn handed_over(&self, user: UserId) -> usize
+        ensures { (past : List Stamped) → Holds self.now past → result ≡ length (mail_items past user) }
+    {
+        if self.is_switch_on(user) {
+            self.batches.rows(user).len()
+        } else {
+            0
+        }
     }
 
     /// How many notices the user's mail turn switches off.
@@ -129,14 +123,14 @@ impl Tables {
         if self.is_switch_on(user) {
             0
         } else {
-            count_mails(&self.waiting, user)
+            self.batches.rows(user).len()
         }
     }
 
-    /// How many batch rows the user has.
-    pub fn batch_rows(&self, user: UserId) -> usize
-        ensures { (j : List Stamped) → StandsFor self.now j → result ≡ length (batch_rows j user) }
+    /// How many of the user's batch rows a mail turn makes no item of: those that it switches off.
+    pub fn dropped(&self, user: UserId) -> usize
+        ensures { (j : List Stamped) → StandsFor self.now j → result ≡ dropped j user }
     {
-        count_mails(&self.waiting, user)
+        self.switched_off(user)
     }
 }

@@ -9,13 +9,14 @@
 mod apply;
 mod audit;
 mod deals;
-mod due;
 mod entries;
 mod facts;
 mod lawful;
+mod mails;
 mod notices;
 mod preferences;
 mod prepared;
+mod readiness;
 mod refusal;
 mod rows;
 mod sets;
@@ -24,5 +25,6 @@ mod topic_key;
 mod user_set;
 mod waiting;
 
+pub use mail_batches::DueUser;
 pub use prepared::Prepared;
-pub use tables::{DueUser, Tables};
+pub use tables::Tables;

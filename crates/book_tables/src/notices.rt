@@ -12,11 +12,11 @@ ghost use Rattle.notice_ledger.specs.Past.Triggers.{mentions_of, is_named, is_me
 
 use crate::facts::{Gathered, set_of};
 use crate::sets::{is_in_one, is_in_set, size_of_set};
-use crate::tables::{Message, Standing, Tables, Waiting, item_at};
+use crate::tables::{Message, Tables, Waiting, item_at};
 use crate::user_set::UserSet;
 use chat_model::{
-    ChannelId, DealNo, Facts, GroupId, List as UserList, Mentions, MessageId, OutOfMemory, Text,
-    Trigger, UserId, Way,
+    ChannelId, DealNo, Facts, GroupId, List as UserList, Mentions, MessageId, OutOfMemory, Stage,
+    Text, Trigger, UserId, Way,
 };
 use mention_scan::{resolve, scan};
 use notice_ledger::Destination;
@@ -177,7 +177,7 @@ impl Tables {
                     via: self.via(mentioned, user, trigger),
                     deal: DealNo(self.messages.len() as u64),
                     online: pushes_online(facts, way),
-                    standing: Standing::Flight,
+                    stage: Stage::Flight,
                 })?;
                 Ok(())
             }

@@ -5,8 +5,10 @@ ghost use Rattle.std.specs.Vec.{vec_len, vec_capacity};
 ghost use Rattle.chat_model.specs.Settings.{default_settings};
 ghost use Rattle.notice_ledger.specs.Past.Values.{numbered};
 ghost use Rattle.book_tables.specs.UserSets.{changed_numbered};
+ghost use Rattle.book_tables.specs.Batched.{period_in};
 ghost use Rattle.book_tables.specs.Preferences.{preferred, default_preferred, preferred_after, HasPlaceFor};
 
+use crate::tables::item_at;
 use crate::topic_key::TopicKey;
 use crate::user_set::UserSet;
 use chat_model::{
@@ -177,6 +179,16 @@ impl Preferences {
                 return;
             }
         }
+    }
+}
+
+/// The user's period, in seconds.
+pub fn period_of(all: &[Preferences], user: UserId) -> u64
+    ensures { result ≡ period_in all.now user }
+{
+    match item_at(all, user.0) {
+        Some(preferences) => preferences.settings.period,
+        None => Settings::default().period,
     }
 }
 

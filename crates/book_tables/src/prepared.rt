@@ -11,9 +11,9 @@ ghost use Rattle.notice_ledger.specs.Lawful.{is_lawful_after};
 ghost use Rattle.notice_ledger.specs.Rows.{rows};
 ghost use Rattle.notice_ledger.specs.Past.Rows.{outbox_rows_from};
 ghost use Rattle.book_tables.specs.UserSets.{users_in};
-ghost use Rattle.book_tables.specs.Notices.{IsInOrder, is_undecided, is_undecided_at, is_undecided_of, is_ready_mail_to, readied, dealt_to, named_by};
+ghost use Rattle.book_tables.specs.Notices.{IsInOrder, is_undecided, is_undecided_at, is_undecided_of, readied, dealt_to, named_by};
 ghost use Rattle.chat_model.specs.Outcomes.{is_idle, is_live};
-ghost use Rattle.book_tables.specs.Prepared.{notice_row, key_of_notice, puts_where, removes_where, changes_of};
+ghost use Rattle.book_tables.specs.Prepared.{notice_row, key_of_notice, puts_where, removes_where, removed_mail, changes_of};
 
 use crate::facts::set_of;
 use crate::preferences::Preference;
@@ -89,6 +89,8 @@ pub enum Effect {
     Mailed {
         user: UserId,
         entries: Vec<Entry>,
+        /// How many notices were handed over.
+        handed: u64,
         /// How many notices were switched off.
         off: u64,
     },
@@ -113,7 +115,7 @@ fn row_of(notice: &Waiting) -> Row
         way: notice.way,
         trigger: notice.trigger,
         deal: notice.deal,
-        stage: notice.stage(),
+        stage: notice.stage,
     }
 }
 
@@ -137,17 +139,13 @@ pub(crate) fn put_notices(
     Ok(())
 }
 
-/// Adds the rows of the undecided notices, which become ready by this stamp.
-fn put_ready(
-    changes: &mut Vec<RowChange>,
-    waiting: &[Waiting],
-    at: Moment,
-) -> Result<(), OutOfMemory>
-    ensures { OnOk result (changes.new.items ≡ changes.old.items ++ puts_where is_undecided (readied at) waiting.now) }
+/// Adds the rows of the undecided notices, which become ready.
+fn put_ready(changes: &mut Vec<RowChange>, waiting: &[Waiting]) -> Result<(), OutOfMemory>
+    ensures { OnOk result (changes.new.items ≡ changes.old.items ++ puts_where is_undecided readied waiting.now) }
 {
     for notice in waiting {
         if !notice.is_ready() {
-            changes.push(RowChange::Put(row_of(&notice.readied(at))))?;
+            changes.push(RowChange::Put(row_of(&notice.readied())))?;
         }
     }
     Ok(())
@@ -157,52 +155,49 @@ fn put_ready(
 fn put_dealt(
     changes: &mut Vec<RowChange>,
     waiting: &[Waiting],
-    at: Moment,
     deal: DealNo,
     idle: &UserSet,
     live: &UserSet,
 ) -> Result<(), OutOfMemory>
-    ensures { IsInOrder waiting.now → OnOk result (changes.new.items ≡ changes.old.items ++ puts_where (is_undecided_of deal) (dealt_to at (users_in idle.now) (users_in live.now)) waiting.now) }
+    ensures { IsInOrder waiting.now → OnOk result (changes.new.items ≡ changes.old.items ++ puts_where (is_undecided_of deal) (dealt_to (users_in idle.now) (users_in live.now)) waiting.now) }
 {
     let stretch = find_deal(waiting, deal);
     for notice in &waiting[stretch.from..stretch.to] {
         if !notice.is_ready() {
-            changes.push(RowChange::Put(row_of(&notice.dealt(at, idle, live))))?;
+            changes.push(RowChange::Put(row_of(&notice.dealt(idle, live))))?;
         }
     }
     Ok(())
 }
 
-/// Adds the row of the undecided notice of a deal to a user by a way, which becomes ready by this stamp.
+/// Adds the row of the undecided notice of a deal to a user by a way, which becomes ready.
 fn put_missed(
     changes: &mut Vec<RowChange>,
     waiting: &[Waiting],
-    at: Moment,
     deal: DealNo,
     user: UserId,
     way: Way,
 ) -> Result<(), OutOfMemory>
-    ensures { IsInOrder waiting.now → OnOk result (changes.new.items ≡ changes.old.items ++ puts_where (is_undecided_at deal user way) (readied at) waiting.now) }
+    ensures { IsInOrder waiting.now → OnOk result (changes.new.items ≡ changes.old.items ++ puts_where (is_undecided_at deal user way) readied waiting.now) }
 {
     if let Some(place) = find_undecided(waiting, deal, user, way) {
-        changes.push(RowChange::Put(row_of(&waiting[place].readied(at))))?;
+        changes.push(RowChange::Put(row_of(&waiting[place].readied())))?;
     }
     Ok(())
 }
 
-/// Adds the rows of a user's undecided notices of these deals, which become ready by this stamp.
+/// Adds the rows of a user's undecided notices of these deals, which become ready.
 fn put_all_missed(
     changes: &mut Vec<RowChange>,
     waiting: &[Waiting],
-    at: Moment,
     user: UserId,
     deals: &[DealNo],
 ) -> Result<(), OutOfMemory>
-    ensures { IsInOrder waiting.now → OnOk result (changes.new.items ≡ changes.old.items ++ flat_map (λ test. puts_where test (readied at) waiting.now) (named_by user deals.now)) }
+    ensures { IsInOrder waiting.now → OnOk result (changes.new.items ≡ changes.old.items ++ flat_map (λ test. puts_where test readied waiting.now) (named_by user deals.now)) }
 {
     for deal in deals {
-        put_missed(changes, waiting, at, *deal, user, Way::Mail)?;
-        put_missed(changes, waiting, at, *deal, user, Way::Push)?;
+        put_missed(changes, waiting, *deal, user, Way::Mail)?;
+        put_missed(changes, waiting, *deal, user, Way::Push)?;
     }
     Ok(())
 }
@@ -239,18 +234,16 @@ fn remove_all_cleared(
     Ok(())
 }
 
-/// Takes the rows of a user's mail notices that are ready away.
+/// Takes the rows of a user's mail notices of these messages away.
 fn remove_mails(
     changes: &mut Vec<RowChange>,
-    waiting: &[Waiting],
     user: UserId,
+    messages: &[MessageId],
 ) -> Result<(), OutOfMemory>
-    ensures { OnOk result (changes.new.items ≡ changes.old.items ++ removes_where (is_ready_mail_to user) waiting.now) }
+    ensures { OnOk result (changes.new.items ≡ changes.old.items ++ map (removed_mail user) messages.now) }
 {
-    for notice in waiting {
-        if notice.is_ready_mail_to(user) {
-            changes.push(RowChange::Remove(key_of(notice)))?;
-        }
+    for message in messages {
+        changes.push(RowChange::Remove(RowKey::Pending(user, *message, Way::Mail)))?;
     }
     Ok(())
 }
@@ -301,7 +294,7 @@ impl Tables {
     ghost use Rattle.chat_model.specs.declared.event.Event.TheVariants.{Restart, Asked, Absorbed, MailTurn};
     ghost use Rattle.chat_model.specs.declared.deal.Outcome.TheVariants.{Dealt, Cleared, Missed};
     ghost use Rattle.chat_model.specs.declared.request.Request.TheVariants.{AddUser, AddGroup, Set, SetPolicy, Send, Direct};
-    ghost use Rattle.book_tables.specs.Tables.{Holds, StandsFor, send_of};
+    ghost use Rattle.book_tables.specs.Tables.{Holds, HoldSome, StandsFor, send_of};
     ghost use Rattle.book_tables.specs.Prepared.{Follows, IsPreparedFor, MayFollow};
 
     fn prepare_user(&self, at: Moment, name: &Text, bot: bool) -> Result<Prepared, OutOfMemory>
@@ -463,11 +456,12 @@ impl Tables {
     }
 
     fn prepare_mails(&self, at: Moment, user: UserId) -> Result<Prepared, OutOfMemory>
+        requires { HoldSome self.now }
         ensures { IfOk result (λ p. (past : Items Stamped) → Holds self.now past → Follows past (record { at = at; event = MailTurn user }) p) }
     {
         let entries = self.mail_entries(at, user)?;
         let mut changes = Vec::new(self.alloc);
-        remove_mails(&mut changes, &self.waiting, user)?;
+        remove_mails(&mut changes, user, self.batches.rows(user))?;
         put_entries(self.alloc, &mut changes, self.outbox.len(), &entries)?;
         Ok(Prepared {
             at,
@@ -475,6 +469,7 @@ impl Tables {
             effect: Effect::Mailed {
                 user,
                 entries,
+                handed: self.handed_over(user) as u64,
                 off: self.switched_off(user) as u64,
             },
         })
@@ -485,7 +480,7 @@ impl Tables {
         ensures { IfOk result (λ p. (past : Items Stamped) → Holds self.now past → Follows past (record { at = at; event = Restart }) p) }
     {
         let mut changes = Vec::new(self.alloc);
-        put_ready(&mut changes, &self.waiting, at)?;
+        put_ready(&mut changes, &self.waiting)?;
         Ok(Prepared {
             at,
             changes,
@@ -504,7 +499,7 @@ impl Tables {
         let idle = set_of(idle_users(self.alloc, verdicts.as_slice())?);
         let live = set_of(live_users(self.alloc, verdicts.as_slice())?);
         let mut changes = Vec::new(self.alloc);
-        put_dealt(&mut changes, &self.waiting, at, deal, &idle, &live)?;
+        put_dealt(&mut changes, &self.waiting, deal, &idle, &live)?;
         Ok(Prepared {
             at,
             changes,
@@ -540,7 +535,7 @@ impl Tables {
         ensures { IfOk result (λ p. (past : Items Stamped) → Holds self.now past → Follows past (record { at = at; event = Absorbed (Missed user deals.now) }) p) }
     {
         let mut changes = Vec::new(self.alloc);
-        put_all_missed(&mut changes, &self.waiting, at, user, deals.as_slice())?;
+        put_all_missed(&mut changes, &self.waiting, user, deals.as_slice())?;
         let deals = deals.copy()?;
         Ok(Prepared {
             at,

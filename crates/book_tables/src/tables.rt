@@ -8,8 +8,9 @@ use crate::preferences::Preferences;
 use crate::user_set::UserSet;
 use chat_model::{
     Answer, ChannelId, Deal, DealNo, Entry, EntryNo, GroupId, GroupName, MessageId, Moment,
-    OutOfMemory, Request, Text, Trigger, UserId, UserName, Way,
+    OutOfMemory, Request, Stage, Text, Trigger, UserId, UserName, Way,
 };
+use mail_batches::Batches;
 use notice_ledger::Destination;
 use std::alloc::Global;
 
@@ -19,17 +20,6 @@ pub struct Message {
     pub sender: UserId,
     pub to: Destination,
     pub text: Text,
-}
-
-/// How far an owed notice has come.
-#[derive(Clone, Copy, Debug)]
-pub enum Standing {
-    /// Nothing was absorbed of its deal.
-    Flight,
-    /// Its deal was absorbed.
-    Held,
-    /// It is ready since the stamp of the event that made it ready.
-    Ready(Moment),
 }
 
 /// An owed notice that is still to be handed over.
@@ -44,14 +34,7 @@ pub struct Waiting {
     pub deal: DealNo,
     /// Whether it is a push to a user who wants pushes while online.
     pub online: bool,
-    pub standing: Standing,
-}
-
-/// A user with a due moment, in seconds since 1970-01-01T00:00:00Z.
-#[derive(Clone, Copy, Debug, PartialEq, Eq)]
-pub struct DueUser {
-    pub due: u64,
-    pub user: UserId,
+    pub stage: Stage,
 }
 
 /// Users, groups, channels and messages by their numbers, the notices that wait, and the outbox.
@@ -70,9 +53,13 @@ pub struct Tables {
     pub(crate) subscribers: Vec<UserSet>,
     pub(crate) messages: Vec<Message>,
     pub(crate) waiting: Vec<Waiting>,
+    /// The mails among them that are ready, by user, and when they are due.
+    pub(crate) batches: Batches,
     /// By their numbers, from 0.
     pub(crate) deals: Vec<Deal>,
     pub(crate) outbox: Vec<Entry>,
+    /// How many notices were handed over at their turns, at most 2^64 - 1.
+    pub(crate) handed: u64,
     /// How many notices were switched off at their turns, at most 2^64 - 1.
     pub(crate) off: u64,
     /// How many notices a live queue cleared, at most 2^64 - 1.
@@ -126,8 +113,10 @@ impl Tables {
             subscribers: Vec::new(alloc),
             messages: Vec::new(alloc),
             waiting: Vec::new(alloc),
+            batches: Batches::new(alloc),
             deals: Vec::new(alloc),
             outbox: Vec::new(alloc),
+            handed: 0,
             off: 0,
             live: 0,
         }

@@ -1,12 +1,13 @@
 //! The notices that wait. They stand in the order of the events that owe them, and so ascend by deal, user and way: those
 //! that an outcome names are found by binary search.
-ghost use Rattle.std.specs.Prelude.{◌≡◌, ◌≤◌, ◌<◌, not, ◌&&◌, length, map, filter, IfSome, if◌then◌else◌};
+ghost use Rattle.std.specs.Prelude.{◌≡◌, ◌≤◌, ◌<◌, ◌+◌, not, ◌&&◌, length, filter, IfSome};
+ghost use Rattle.std.specs.Option.{MatchOption};
 ghost use Rattle.book_tables.specs.UserSets.{users_in};
-ghost use Rattle.book_tables.specs.Notices.{rank, is_ready, is_mail_to, is_ready_mail_to, stage_of, is_at_stage, is_before, is_at, is_undecided, is_undecided_at, of_deal, is_named, readied, readied_if, dealt_to, IsInOrder, IsFound, IsStretchOf};
+ghost use Rattle.book_tables.specs.Notices.{rank, is_ready, is_undecided_mail, is_at_stage, is_before, is_at, is_undecided, is_undecided_at, is_batch_row, is_one_batch_row, of_deal, is_named, goes_ready, moved, readied, dealt_to, IsInOrder, AreNumbered, IsFound, IsStretchOf};
 
-use crate::tables::{Standing, Waiting};
+use crate::tables::Waiting;
 use crate::user_set::UserSet;
-use chat_model::{DealNo, Moment, Stage, UserId, Way};
+use chat_model::{DealNo, MessageId, Stage, UserId, Way};
 
 /// Where a way stands: a user's mail notice before the push.
 fn rank(way: Way) -> u64
@@ -22,32 +23,14 @@ impl Waiting {
     pub fn is_ready(&self) -> bool
         ensures { result ≡ is_ready self.now }
     {
-        matches!(self.standing, Standing::Ready(_))
+        matches!(self.stage, Stage::Ready)
     }
 
-    /// Whether it is a mail notice of the user.
-    pub fn is_mail_to(&self, user: UserId) -> bool
-        ensures { result ≡ is_mail_to user self.now }
+    /// Whether it is a mail notice, and not ready.
+    pub fn is_undecided_mail(&self) -> bool
+        ensures { result ≡ is_undecided_mail self.now }
     {
-        self.user.0 == user.0 && rank(self.way) == 0
-    }
-
-    /// Whether it is a mail notice of the user, and ready.
-    pub fn is_ready_mail_to(&self, user: UserId) -> bool
-        ensures { result ≡ is_ready_mail_to user self.now }
-    {
-        self.is_mail_to(user) && self.is_ready()
-    }
-
-    /// How far it has come, as its row says it.
-    pub fn stage(&self) -> Stage
-        ensures { result ≡ stage_of self.now }
-    {
-        match self.standing {
-            Standing::Flight => Stage::Flight,
-            Standing::Held => Stage::Held,
-            Standing::Ready(_) => Stage::Ready,
-        }
+        rank(self.way) == 0 && !self.is_ready()
     }
 
     /// Whether it has come this far and no further.
@@ -55,7 +38,7 @@ impl Waiting {
         ensures { result ≡ is_at_stage stage self.now }
     {
         matches!(
-            (self.stage(), stage),
+            (self.stage, stage),
             (Stage::Flight, Stage::Flight)
                 | (Stage::Held, Stage::Held)
                 | (Stage::Ready, Stage::Ready)
@@ -71,44 +54,59 @@ impl Waiting {
                 && (self.user.0 < user.0 || self.user.0 == user.0 && rank(self.way) < rank(way))
     }
 
-    /// Whether it is the notice of a deal to a user by a way, and undecided.
-    fn is_undecided_at(&self, deal: DealNo, user: UserId, way: Way) -> bool
-        ensures { result ≡ is_undecided_at deal user way self.now }
+    /// Whether it is the notice of a deal to a user by a way.
+    fn is_at(&self, deal: DealNo, user: UserId, way: Way) -> bool
+        ensures { result ≡ is_at deal user way self.now }
     {
-        self.deal.0 == deal.0
-            && self.user.0 == user.0
-            && rank(self.way) == rank(way)
-            && !self.is_ready()
+        self.deal.0 == deal.0 && self.user.0 == user.0 && rank(self.way) == rank(way)
     }
 
-    /// The notice, ready by this stamp.
-    pub fn readied(self, at: Moment) -> Waiting
-        ensures { result ≡ readied at self }
+    /// The notice once it moved on: to be ready, or else to be held.
+    pub fn moved(self, readies: bool) -> Waiting
+        ensures { result ≡ moved readies self }
     {
-        match self.standing {
-            Standing::Ready(_) => self,
-            _ => Waiting {
-                standing: Standing::Ready(at),
-                ..self
-            },
-        }
+        let stage = match self.stage {
+            Stage::Ready => Stage::Ready,
+            _ if readies => Stage::Ready,
+            _ => Stage::Held,
+        };
+        Waiting { stage, ..self }
     }
 
-    /// The notice once its deal is absorbed, where the user was found idle or live: at once it is ready for who is idle,
+    /// The notice, ready.
+    pub fn readied(self) -> Waiting
+        ensures { result ≡ readied self }
+    {
+        self.moved(true)
+    }
+
+    /// Whether its deal makes it ready as soon as it is absorbed, where users were found idle or live: for who is idle,
     /// and as a push to who wants pushes while online.
-    pub fn dealt(self, at: Moment, idle: &UserSet, live: &UserSet) -> Waiting
-        ensures { result ≡ dealt_to at (users_in idle.now) (users_in live.now) self }
+    pub fn goes_ready(&self, idle: &UserSet, live: &UserSet) -> bool
+        ensures { result ≡ goes_ready (users_in idle.now) (users_in live.now) self.now }
     {
-        if idle.has(self.user) || self.online && live.has(self.user) {
-            return self.readied(at);
-        }
-        match self.standing {
-            Standing::Flight => Waiting {
-                standing: Standing::Held,
-                ..self
-            },
-            _ => self,
-        }
+        idle.has(self.user) || self.online && live.has(self.user)
+    }
+
+    /// The notice once its deal is absorbed, where users were found idle or live.
+    pub fn dealt(self, idle: &UserSet, live: &UserSet) -> Waiting
+        ensures { result ≡ dealt_to (users_in idle.now) (users_in live.now) self }
+    {
+        let readies = self.goes_ready(idle, live);
+        self.moved(readies)
+    }
+}
+
+/// The place of the notice of a deal to a user by a way.
+fn find_notice(waiting: &[Waiting], deal: DealNo, user: UserId, way: Way) -> Option<usize>
+    ensures within { IfSome result (λ place. place < length waiting.now) }
+    ensures found { IsInOrder waiting.now → IsFound (is_at deal user way) waiting.now result }
+{
+    let place = waiting.partition_point(|notice| notice.is_before(deal, user, way));
+    if place < waiting.len() && waiting[place].is_at(deal, user, way) {
+        Some(place)
+    } else {
+        None
     }
 }
 
@@ -117,8 +115,30 @@ pub fn find_undecided(waiting: &[Waiting], deal: DealNo, user: UserId, way: Way)
     ensures within { IfSome result (λ place. place < length waiting.now) }
     ensures found { IsInOrder waiting.now → IsFound (is_undecided_at deal user way) waiting.now result }
 {
-    let place = waiting.partition_point(|notice| notice.is_before(deal, user, way));
-    if place < waiting.len() && waiting[place].is_undecided_at(deal, user, way) {
+    let place = find_notice(waiting, deal, user, way)?;
+    if waiting[place].is_ready() {
+        None
+    } else {
+        Some(place)
+    }
+}
+
+/// The deal of a message: each send makes one. Messages are numbered from 1, and deals from 0.
+fn deal_of(message: MessageId) -> Option<DealNo>
+    ensures { MatchOption result (message.0 ≡ 0) (λ deal. message.0 ≡ deal.0 + 1) }
+{
+    let number = message.0.checked_sub(1)?;
+    Some(DealNo(number))
+}
+
+/// The place of the user's batch row of a message.
+pub fn find_batch_row(waiting: &[Waiting], user: UserId, message: MessageId) -> Option<usize>
+    ensures within { IfSome result (λ place. place < length waiting.now) }
+    ensures found { IsInOrder waiting.now → AreNumbered waiting.now → IsFound (is_batch_row user message) waiting.now result }
+{
+    let deal = deal_of(message)?;
+    let place = find_notice(waiting, deal, user, Way::Mail)?;
+    if waiting[place].is_ready() {
         Some(place)
     } else {
         None
@@ -144,44 +164,6 @@ pub fn find_deal(waiting: &[Waiting], deal: DealNo) -> Stretch
     Stretch { from, to }
 }
 
-/// Makes every notice ready by this stamp.
-pub fn ready_all(waiting: &mut [Waiting], at: Moment)
-    ensures { waiting.new ≡ map (readied at) waiting.old }
-{
-    for i in 0..waiting.len() {
-        waiting[i] = waiting[i].readied(at);
-    }
-}
-
-/// Deals a deal out: its notices are ready or held.
-pub fn deal_out(waiting: &mut [Waiting], at: Moment, deal: DealNo, idle: &UserSet, live: &UserSet)
-    ensures { IsInOrder waiting.old → waiting.new ≡ map (λ w. if of_deal deal w then dealt_to at (users_in idle.now) (users_in live.now) w else w) waiting.old }
-{
-    let stretch = find_deal(waiting, deal);
-    for i in stretch.from..stretch.to {
-        waiting[i] = waiting[i].dealt(at, idle, live);
-    }
-}
-
-/// Makes the notice of a deal to a user by a way ready.
-fn ready_one(waiting: &mut [Waiting], at: Moment, deal: DealNo, user: UserId, way: Way)
-    ensures { IsInOrder waiting.old → waiting.new ≡ map (λ w. readied_if (is_at deal user way w) at w) waiting.old }
-{
-    if let Some(place) = find_undecided(waiting, deal, user, way) {
-        waiting[place] = waiting[place].readied(at);
-    }
-}
-
-/// Makes a user's notices of these deals ready.
-pub fn ready_named(waiting: &mut [Waiting], at: Moment, user: UserId, deals: &[DealNo])
-    ensures { IsInOrder waiting.old → waiting.new ≡ map (λ w. readied_if (is_named user deals.now w) at w) waiting.old }
-{
-    for deal in deals {
-        ready_one(waiting, at, *deal, user, Way::Mail);
-        ready_one(waiting, at, *deal, user, Way::Push);
-    }
-}
-
 /// Takes the notice of a deal to a user by a way out, where it is undecided.
 fn clear_one(waiting: &mut Vec<Waiting>, deal: DealNo, user: UserId, way: Way)
     ensures { IsInOrder waiting.old.items → waiting.new.items ≡ filter (λ w. not (is_undecided_at deal user way w)) waiting.old.items }
@@ -198,5 +180,23 @@ pub fn clear_named(waiting: &mut Vec<Waiting>, user: UserId, deals: &[DealNo])
     for deal in deals {
         clear_one(waiting, *deal, user, Way::Mail);
         clear_one(waiting, *deal, user, Way::Push);
+    }
+}
+
+/// Takes the user's batch row of a message out.
+fn take_batch_row(waiting: &mut Vec<Waiting>, user: UserId, message: MessageId)
+    ensures { IsInOrder waiting.old.items → AreNumbered waiting.old.items → waiting.new.items ≡ filter (λ w. not (is_batch_row user message w)) waiting.old.items }
+{
+    if let Some(place) = find_batch_row(waiting, user, message) {
+        waiting.remove(place);
+    }
+}
+
+/// Takes the user's batch rows of these messages out.
+pub fn take_batch_rows(waiting: &mut Vec<Waiting>, user: UserId, messages: &[MessageId])
+    ensures { IsInOrder waiting.old.items → AreNumbered waiting.old.items → waiting.new.items ≡ filter (λ w. not (is_one_batch_row user messages.now w)) waiting.old.items }
+{
+    for message in messages {
+        take_batch_row(waiting, user, *message);
     }
 }

@@ -254,7 +254,7 @@ abbrev pub grow : Item → Group → Group
 grow item g = record { conversation = g.conversation; items = g.items ++ item ∷ [] }
 
 -- the first group that passes a test grows
-abbrev grown : (Group → Bool) → Item → List Group → List Group
+abbrev pub grown : (Group → Bool) → Item → List Group → List Group
 grown p item [] = []
 grown p item (g ∷ gs) = cond (p g) (grow item g ∷ gs) (g ∷ grown p item gs)
 
@@ -353,30 +353,22 @@ begins-more xs x h b e =
     at true = refl
     at false = refl
 
--- one more item of a conversation that is there
-pub joins : (xs : List ReadyItem) (x : ReadyItem) (d : Group) (gs : List Group) → is_ascending_by message_of (xs ++ x ∷ []) ≡ true → gs ≡ groups_of xs → position_or_len (is_of x) gs < length gs →
-    set gs (position_or_len (is_of x) gs) (grow x.item (get_or gs (position_or_len (is_of x) gs) d)) ≡ groups_of (xs ++ x ∷ [])
-joins xs x d gs h e lt =
-    let ascends = ascends-front xs (x ∷ []) h in
-    let some : list_any (λ k. together k x) xs ≡ true = sym (any-begins x xs ascends) ∙ (sym (any-map x xs (filter (begins xs) xs)) ∙ (sym (ap (list_any (is_of x)) e) ∙ some-passes (is_of x) gs lt)) in
-    set-first (is_of x) x.item d gs lt
-    ∙ (ap (grown (is_of x) x.item) e
-    ∙ (groups-grow xs x (filter (begins xs) xs) (once-begins x [] xs ascends)
-    ∙ sym (ap (map (group_of (xs ++ x ∷ []))) (begins-more xs x h true some ∙ append-nil (filter (begins xs) xs)))))
+-- the groups with one more item of a conversation that is there
+pub joined-groups : (xs : List ReadyItem) (x : ReadyItem) → is_ascending_by message_of (xs ++ x ∷ []) ≡ true → list_any (λ k. together k x) xs ≡ true → grown (is_of x) x.item (groups_of xs) ≡ groups_of (xs ++ x ∷ [])
+joined-groups xs x h some =
+    groups-grow xs x (filter (begins xs) xs) (once-begins x [] xs (ascends-front xs (x ∷ []) h))
+    ∙ sym (ap (map (group_of (xs ++ x ∷ []))) (begins-more xs x h true some ∙ append-nil (filter (begins xs) xs)))
 
--- one more item of a conversation that isn't there yet
-pub starts : (xs : List ReadyItem) (x : ReadyItem) (gs : List Group) → is_ascending_by message_of (xs ++ x ∷ []) ≡ true → gs ≡ groups_of xs → length gs ≤ position_or_len (is_of x) gs →
-    gs ++ record { conversation = x.conversation; items = x.item ∷ [] } ∷ [] ≡ groups_of (xs ++ x ∷ [])
-starts xs x gs h e le =
-    let ascends = ascends-front xs (x ∷ []) h in
-    let none_begin : list_any (λ k. together k x) (filter (begins xs) xs) ≡ false = sym (any-map x xs (filter (begins xs) xs)) ∙ (sym (ap (list_any (is_of x)) e) ∙ none-passes (is_of x) gs le) in
-    let none : list_any (λ k. together k x) xs ≡ false = sym (any-begins x xs ascends) ∙ none_begin in
+-- and of one that isn't there yet
+pub started-groups : (xs : List ReadyItem) (x : ReadyItem) → is_ascending_by message_of (xs ++ x ∷ []) ≡ true → list_any (λ k. together k x) xs ≡ false → groups_of xs ++ record { conversation = x.conversation; items = x.item ∷ [] } ∷ [] ≡ groups_of (xs ++ x ∷ [])
+started-groups xs x h none =
+    let none_begin : list_any (λ k. together k x) (filter (begins xs) xs) ≡ false = any-begins x xs (ascends-front xs (x ∷ []) h) ∙ none in
     let new : group_of (xs ++ x ∷ []) x ≡ record { conversation = x.conversation; items = x.item ∷ [] } =
     group-grows xs x x true (same-itself x.conversation) ∙ ap (λ ks. record { conversation = x.conversation; items = map (λ k. k.item) ks ++ x.item ∷ [] }) (filter-none (together x) xs (any-turned x xs ∙ none)) in
     sym (ap (map (group_of (xs ++ x ∷ []))) (begins-more xs x h false none)
     ∙ (map-append (group_of (xs ++ x ∷ [])) (filter (begins xs) xs) (x ∷ [])
-    ∙ (ap (λ hs. hs ++ group_of (xs ++ x ∷ []) x ∷ []) (groups-stay xs x (filter (begins xs) xs) none_begin ∙ sym e)
-    ∙ ap (λ g. gs ++ g ∷ []) new)))
+    ∙ (ap (λ hs. hs ++ group_of (xs ++ x ∷ []) x ∷ []) (groups-stay xs x (filter (begins xs) xs) none_begin)
+    ∙ ap (λ g. groups_of xs ++ g ∷ []) new)))
   where
     filter-none : (p : ReadyItem → Bool) (ks : List ReadyItem) → list_any p ks ≡ false → filter p ks ≡ []
     filter-none p [] k = refl
@@ -385,3 +377,21 @@ starts xs x gs h e le =
         one : (b : Bool) → (b || list_any p js) ≡ false → (list_any p js ≡ false → filter p js ≡ []) → cond b (j ∷ filter p js) (filter p js) ≡ []
         one true n rest = absurd (false≢true (sym n))
         one false n rest = rest n
+
+-- a group is of the conversation where an item is
+pub some-group : (xs : List ReadyItem) (x : ReadyItem) → is_ascending_by message_of xs ≡ true → list_any (is_of x) (groups_of xs) ≡ list_any (λ k. together k x) xs
+some-group xs x h = any-map x xs (filter (begins xs) xs) ∙ any-begins x xs h
+
+-- one more item of a conversation that is there
+pub joins : (xs : List ReadyItem) (x : ReadyItem) (d : Group) (gs : List Group) → is_ascending_by message_of (xs ++ x ∷ []) ≡ true → gs ≡ groups_of xs → position_or_len (is_of x) gs < length gs →
+    set gs (position_or_len (is_of x) gs) (grow x.item (get_or gs (position_or_len (is_of x) gs) d)) ≡ groups_of (xs ++ x ∷ [])
+joins xs x d gs h e lt =
+    let some : list_any (λ k. together k x) xs ≡ true = sym (some-group xs x (ascends-front xs (x ∷ []) h)) ∙ (sym (ap (list_any (is_of x)) e) ∙ some-passes (is_of x) gs lt) in
+    set-first (is_of x) x.item d gs lt ∙ (ap (grown (is_of x) x.item) e ∙ joined-groups xs x h some)
+
+-- one more item of a conversation that isn't there yet
+pub starts : (xs : List ReadyItem) (x : ReadyItem) (gs : List Group) → is_ascending_by message_of (xs ++ x ∷ []) ≡ true → gs ≡ groups_of xs → length gs ≤ position_or_len (is_of x) gs →
+    gs ++ record { conversation = x.conversation; items = x.item ∷ [] } ∷ [] ≡ groups_of (xs ++ x ∷ [])
+starts xs x gs h e le =
+    let none : list_any (λ k. together k x) xs ≡ false = sym (some-group xs x (ascends-front xs (x ∷ []) h)) ∙ (sym (ap (list_any (is_of x)) e) ∙ none-passes (is_of x) gs le) in
+    ap (λ hs. hs ++ record { conversation = x.conversation; items = x.item ∷ [] } ∷ []) e ∙ started-groups xs x h none

@@ -13,14 +13,14 @@ use Rattle.mail_batches.specs.declared.grouping.ReadyItem.{ReadyItem}
 use Rattle.mail_batches.specs.Entries.{message_of, no_message_twice, by_message}
 use Rattle.mail_batches.proofs.GroupSteps.{above-all}
 
-abbrev same_message : ReadyItem → ReadyItem → Bool
+abbrev pub same_message : ReadyItem → ReadyItem → Bool
 same_message x y = message_of x == message_of y
 
-flips : (x y : ReadyItem) → same_message x y ≡ same_message y x
+pub flips : (x y : ReadyItem) → same_message x y ≡ same_message y x
 flips x y = grind (arith, nat_tests)
 
 -- the item of a message is another than these
-abbrev Apart : ReadyItem → List ReadyItem → Type 0
+abbrev pub Apart : ReadyItem → List ReadyItem → Type 0
 Apart x ys = AllByRecursion (λ y. same_message x y ≡ false) ys
 
 apart-from : (x : ReadyItem) (ys : List ReadyItem) → not (list_any (λ k. message_of k == message_of x) ys) ≡ true → Apart x ys
@@ -31,7 +31,7 @@ apart-from x (y ∷ ys) h = at (message_of y == message_of x) (list_any (λ k. m
     at true b e k rest = absurd (false≢true k)
     at false b e k rest = (e, rest k)
 
-distinct : (xs : List ReadyItem) → no_message_twice xs ≡ true → IsDistinct same_message xs
+pub distinct : (xs : List ReadyItem) → no_message_twice xs ≡ true → IsDistinct same_message xs
 unfolding IsDistinct
 distinct [] h = tt
 distinct (x ∷ xs) h =
@@ -53,14 +53,14 @@ abbrev item_of : ℕ → List ReadyItem → Option ReadyItem
 item_of n xs = find (λ k. message_of k == n) xs
 
 -- an item is what is found of its message
-abbrev Found : List ReadyItem → ReadyItem → Type 0
+abbrev pub Found : List ReadyItem → ReadyItem → Type 0
 Found xs y = item_of (message_of y) xs ≡ Some y
 
 found-behind : (x : ReadyItem) (xs ys : List ReadyItem) → AllByRecursion (Found xs) ys → Apart x ys → AllByRecursion (Found (x ∷ xs)) ys
 found-behind x xs [] found apart = tt
 found-behind x xs (y ∷ ys) found apart = (ap (λ b. cond b (Some x) (item_of (message_of y) xs)) apart.0 ∙ found.0, found-behind x xs ys found.1 apart.1)
 
-found-all : (xs : List ReadyItem) → IsDistinct same_message xs → AllByRecursion (Found xs) xs
+pub found-all : (xs : List ReadyItem) → IsDistinct same_message xs → AllByRecursion (Found xs) xs
 unfolding IsDistinct
 found-all [] h = tt
 found-all (x ∷ xs) h = (ap (λ b. cond b (Some x) (item_of (message_of x) xs)) (eq-eqb (message_of x) (message_of x) refl), found-behind x xs xs (found-all xs h.1) h.0)
@@ -92,7 +92,7 @@ not_found : {y : ReadyItem} (o : Option ReadyItem) → o ≡ None → o ≡ Some
 not_found o e f = ap is_some (sym e ∙ f)
 
 -- items that ascend are told by what is found of their messages
-same_items : (xs ys : List ReadyItem) → is_ascending_by message_of xs ≡ true → is_ascending_by message_of ys ≡ true → AllByRecursion (Found xs) ys → AllByRecursion (Found ys) xs → xs ≡ ys
+pub same_items : (xs ys : List ReadyItem) → is_ascending_by message_of xs ≡ true → is_ascending_by message_of ys ≡ true → AllByRecursion (Found xs) ys → AllByRecursion (Found ys) xs → xs ≡ ys
 same_items [] [] hx hy fy fx = refl
 same_items [] (y ∷ ys) hx hy fy fx = absurd (false≢true (not_found None refl fy.0))
 same_items (x ∷ xs) [] hx hy fy fx = absurd (false≢true (not_found None refl fx.0))
@@ -119,10 +119,10 @@ all-to : (P : ReadyItem → Type 0) (xs : List ReadyItem) → All P xs → AllBy
 all-to P [] h = tt
 all-to P (x ∷ xs) h = (h 0 x (omega arith), all-to P xs (λ k d lt. h (suc k) d (omega arith)))
 
-all-moved : (P : ReadyItem → Type 0) (xs ys : List ReadyItem) → IsPermutation xs ys → AllByRecursion P xs → AllByRecursion P ys
+pub all-moved : (P : ReadyItem → Type 0) (xs ys : List ReadyItem) → IsPermutation xs ys → AllByRecursion P xs → AllByRecursion P ys
 all-moved P xs ys moved h = all-to P ys (All-permutation P xs ys moved (all-from P xs h))
 
-put-cases : (P : List ReadyItem → Type 0) (x y : ReadyItem) (ys : List ReadyItem) → P (x ∷ y ∷ ys) → (message_of x ≡ message_of y → P (y ∷ ys)) → P (y ∷ put_once_by message_of x ys) → P (put_once_by message_of x (y ∷ ys))
+pub put-cases : (P : List ReadyItem → Type 0) (x y : ReadyItem) (ys : List ReadyItem) → P (x ∷ y ∷ ys) → (message_of x ≡ message_of y → P (y ∷ ys)) → P (y ∷ put_once_by message_of x ys) → P (put_once_by message_of x (y ∷ ys))
 put-cases P x y ys before same behind =
     cond_both (nat_lt (message_of x) (message_of y)) (x ∷ y ∷ ys) (cond (message_of x == message_of y) (y ∷ ys) (y ∷ put_once_by message_of x ys)) P
     (λ _. before)
@@ -132,7 +132,7 @@ put-all : (P : ReadyItem → Type 0) (x : ReadyItem) (ys : List ReadyItem) → P
 put-all P x [] px h = (px, tt)
 put-all P x (y ∷ ys) px h = put-cases (AllByRecursion P) x y ys (px, h) (λ _. h) (h.0, put-all P x ys px h.1)
 
-by_message-all : (P : ReadyItem → Type 0) (xs : List ReadyItem) → AllByRecursion P xs → AllByRecursion P (by_message xs)
+pub by_message-all : (P : ReadyItem → Type 0) (xs : List ReadyItem) → AllByRecursion P xs → AllByRecursion P (by_message xs)
 by_message-all P [] h = tt
 by_message-all P (x ∷ xs) h = put-all P x (by_message xs) h.0 (by_message-all P xs h.1)
 
@@ -162,7 +162,7 @@ unfolding IsDistinct
 by_message-found n [] h = refl
 by_message-found n (x ∷ xs) h = put-found n x (by_message xs) (by_message-all (λ y. same_message x y ≡ false) xs h.0) ∙ ap (cond (message_of x == n) (Some x)) (by_message-found n xs h.1)
 
-found-sorted : (xs ys : List ReadyItem) → IsDistinct same_message xs → AllByRecursion (Found xs) ys → AllByRecursion (Found (by_message xs)) ys
+pub found-sorted : (xs ys : List ReadyItem) → IsDistinct same_message xs → AllByRecursion (Found xs) ys → AllByRecursion (Found (by_message xs)) ys
 found-sorted xs [] h found = tt
 found-sorted xs (y ∷ ys) h found = (by_message-found (message_of y) xs h ∙ found.0, found-sorted xs ys h found.1)
 

@@ -1,3 +1,6 @@
+pub mod EntryCounts
+pub mod EntryOrder
+pub mod EntrySums
 pub mod GroupSteps
 pub mod InOrder
 pub mod Leasts

@@ -1,21 +1,32 @@
--- The counts of a journal: the pending notices are those that wait, each handed one has an entry of its own, and turns with
+-- The counts of a journal: the pending notices are those that wait, each handed one is an item of an entry, and turns with
 -- the switch off and live queues cancel the others.
-use Rattle.std.proofs.Common.{◌≡◌, ℕ, ◌+◌, ◌<◌, Bool, true, false, ◌&&◌, cond, List, ◌∷◌, [], ◌++◌, length, refl, sym, ap, ◌∙◌, arith}
+use Rattle.std.proofs.Common.{◌≡◌, ℕ, ◌+◌, ◌<◌, Bool, true, false, ◌&&◌, ◌==◌, cond, List, ◌∷◌, [], ◌++◌, length, map, refl, sym, ap, ◌∙◌, arith}
 use Rattle.std.specs.Prelude.{Option, Some, None, option_map, is_some, filter, sum_by, count_by, if◌then◌else◌}
 use Rattle.std.proofs.lemmas.List.Sums.{length-filter, sum_by-append, sum_by-cons}
 use Rattle.chat_model.specs.declared.event.Stamped.{Stamped}
+use Rattle.chat_model.specs.declared.event.Event.TheVariants.{MailTurn}
+use Rattle.chat_model.specs.declared.entry.Conversation.{Conversation}
+use Rattle.chat_model.specs.declared.entry.Entry.{Entry}
+use Rattle.chat_model.specs.declared.entry.Entry.TheVariants as entry
+use Rattle.chat_model.specs.declared.entry.Item.{Item}
+use Rattle.chat_model.specs.declared.ids.UserId.{UserId}
 use Rattle.chat_model.specs.declared.row.Cause.{Cause}
 use Rattle.chat_model.specs.declared.row.Cause.TheVariants.{Read, Deleted, SwitchedOff}
+use Rattle.chat_model.specs.declared.trigger.Way.TheVariants.{Mail}
+use Rattle.mail_batches.specs.Entries.{entries_of}
+use Rattle.mail_batches.proofs.EntrySums.{entries-sum}
 use Rattle.notice_ledger.specs.declared.accounts.Account.{Account}
 use Rattle.notice_ledger.specs.declared.accounts.Account.TheVariants.{NotOwed, Flight, Held, Ready, Handed, Cancelled, LiveQueue}
 use Rattle.notice_ledger.specs.Past.Journal.{Occurrence, occurrence}
-use Rattle.notice_ledger.specs.Past.Owed.{Notice, notices, owed_by, ready, was_cleared, was_dealt, turn, switch_on, decided, account_by, account_of, is_pending, waiting}
-use Rattle.notice_ledger.specs.Past.Outbox.{outbox, entries_by}
+use Rattle.notice_ledger.specs.Past.Values.{user_name}
+use Rattle.notice_ledger.specs.Past.Owed.{Notice, same_way, notices, owed_by, ready, was_cleared, was_dealt, turn, switch_on, decided, account_by, account_of, is_pending, waiting}
+use Rattle.notice_ledger.specs.Past.Due.{batch_rows}
+use Rattle.notice_ledger.specs.Past.Outbox.{ready_item, mailed, mail_items, dropped, mail_entries, entries_by, outbox}
 use Rattle.notice_ledger.specs.Past.Audit.{same_cause, same_account, owed_with, in_64_bits, counts_of}
-use Rattle.notice_ledger.proofs.Appended.{notices-append}
+use Rattle.notice_ledger.proofs.Appended.{notices-append, outbox-append}
 use Rattle.notice_ledger.proofs.Apart.{AllByRecursion-from_all}
-use Rattle.notice_ledger.proofs.Batches.{is_ready}
-use Rattle.notice_ledger.proofs.Handed.{is_handed, is_handed_by, entries_by-handed, outbox-handed, none_plus, plus_none}
+use Rattle.notice_ledger.proofs.Batches.{is_ready, is_ready_mail_of, filter_same, batch_rows-waiting, mailed-once, mail_items-dropped}
+use Rattle.notice_ledger.proofs.Handed.{is_handed, is_handed_by, turn-user, eqb-turned, entries_by-handed, outbox-handed, none_plus, plus_none}
 use Rattle.notice_ledger.proofs.Standing.{is_turn, is_readying, is_clearing, is_dealing, moved, moved_by, account_of-plain, account_of-append}
 use Rattle.notice_ledger.proofs.Sums.{sum_by_same, sum_by_none_where, sum_by_both_where, sum_by-filter}
 use Rattle.notice_ledger.proofs.Waiting.{IsOwedBy, owed_by-each, notices-placed, account_of-new, waiting-pending}
@@ -31,10 +42,29 @@ pub ones : {X : Type 0} (xs : List X) → length xs ≡ sum_by (λ x. 1) xs
 ones [] = refl
 ones (x ∷ xs) = let e = ones xs in let more = sum_by-cons (λ x. 1) x xs in omega arith
 
--- each handed notice has an entry of its own
-pub owed_with-outbox : (j : List Stamped) → owed_with j Handed ≡ length (outbox j)
+-- how many messages an entry has
+abbrev pub item_count : Entry → ℕ
+item_count (entry.Mail user name at conversation items) = length items
+
+-- how many notices were handed over
+abbrev pub handed_over : List Stamped → ℕ
+handed_over j = owed_with j Handed
+
+count_items : (u : UserId) (name : List ℕ) (at : ℕ) (c : Conversation) (items : List Item) → item_count (entry.Mail u name at c items) ≡ sum_by (λ i. 1) items
+count_items u name at c items = ones items
+
+-- each handed notice is an item of an entry
+pub handed_over-outbox : (j : List Stamped) → handed_over j ≡ sum_by item_count (outbox j)
 unfolding owed_with
-owed_with-outbox j = sym (ones (outbox j) ∙ outbox-handed (λ e. 1) (λ n. 1) (λ j at n way. refl) j)
+handed_over-outbox j = sym (outbox-handed item_count (λ u i. 1) (λ n. 1) count_items (λ j n way. refl) j)
+
+-- an event hands over as many as its entries have
+pub handed_over-append : (j : List Stamped) (s : Stamped) → handed_over (j ++ s ∷ []) ≡ handed_over j + sum_by item_count (entries_by j s.at s.event)
+handed_over-append j s =
+    handed_over-outbox (j ++ s ∷ [])
+    ∙ (ap (sum_by item_count) (outbox-append j s)
+    ∙ (sum_by-append item_count (outbox j) (entries_by j s.at s.event)
+    ∙ ap (λ n. n + sum_by item_count (entries_by j s.at s.event)) (sym (handed_over-outbox j))))
 
 -- no notice is read or deleted yet
 pub owed_with-none : (j : List Stamped) (cause : Cause) → same_cause SwitchedOff cause ≡ false → owed_with j (Cancelled cause) ≡ 0
@@ -135,19 +165,19 @@ owed_with-append j s account other =
 abbrev pub is_turned : List Stamped → Stamped → Notice → Bool
 is_turned j s n = is_ready j n && is_turn s n
 
--- a notice whose turn it is gets an entry or is switched off
-pub switched_off-append : (j : List Stamped) (s : Stamped) → switched_off (j ++ s ∷ []) + length (entries_by j s.at s.event) ≡ switched_off j + length (filter (is_turned j s) (waiting j))
+-- a notice whose turn it is becomes an item or is switched off
+pub switched_off-append : (j : List Stamped) (s : Stamped) → switched_off (j ++ s ∷ []) + sum_by item_count (entries_by j s.at s.event) ≡ switched_off j + length (filter (is_turned j s) (waiting j))
 switched_off-append j s =
     let off : Notice → ℕ = λ n. cond (same_account (moved j s n (account_of j n)) (Cancelled SwitchedOff)) 1 0 in
     let over : Notice → ℕ = λ n. cond (is_handed_by j s n) 1 0 in
     let turned : Notice → ℕ = λ n. cond (is_turned j s n) 1 0 in
     let more : switched_off (j ++ s ∷ []) ≡ switched_off j + sum_by off (waiting j) = owed_with-append j s (Cancelled SwitchedOff) refl in
-    let made : length (entries_by j s.at s.event) ≡ sum_by over (waiting j) = ones (entries_by j s.at s.event) ∙ entries_by-handed (λ e. 1) (λ n. 1) (λ j at n way. refl) j s in
+    let made : sum_by item_count (entries_by j s.at s.event) ≡ sum_by over (waiting j) = entries_by-handed item_count (λ u i. 1) (λ n. 1) count_items (λ j n way. refl) j s in
     let both : sum_by turned (waiting j) ≡ sum_by off (waiting j) + sum_by over (waiting j) =
     sum_by_both_where (λ n. is_pending (account_of j n) ≡ true) turned off over
     (λ n pending. one_of_two n (is_turn s n) (is_readying s n) (is_clearing s n) (is_dealing s n) (switch_on j n.user n.way) (account_of j n) pending) (waiting j) (waiting-pending j) in
     let counted : length (filter (is_turned j s) (waiting j)) ≡ sum_by turned (waiting j) = length-filter (is_turned j s) (waiting j) in
-    whole (switched_off (j ++ s ∷ [])) (switched_off j) (sum_by off (waiting j)) (length (entries_by j s.at s.event)) (sum_by over (waiting j)) (sum_by turned (waiting j)) (length (filter (is_turned j s) (waiting j))) more made both counted
+    whole (switched_off (j ++ s ∷ [])) (switched_off j) (sum_by off (waiting j)) (sum_by item_count (entries_by j s.at s.event)) (sum_by over (waiting j)) (sum_by turned (waiting j)) (length (filter (is_turned j s) (waiting j))) more made both counted
   where
     whole : (after before off made over turned counted : ℕ) → after ≡ before + off → made ≡ over → turned ≡ off + over → counted ≡ turned → after + made ≡ before + counted
     whole after before off made over turned counted h1 h2 h3 h4 = omega arith
@@ -170,6 +200,46 @@ switched_off-append j s =
     one_of_two n tn rd cl dl on (Cancelled cause) h = absurd (cc)
     one_of_two n tn rd cl dl on LiveQueue h = absurd (cc)
 
+-- ---- a mail turn
+
+-- its entries have its items
+pub mail_entries-items : (j : List Stamped) (at : ℕ) (u : UserId) → sum_by item_count (mail_entries j at u) ≡ length (mail_items j u)
+mail_entries-items j at u = by (switch_on j u Mail)
+  where
+    by : (on : Bool) → sum_by item_count (if on then entries_of u (user_name j u) at (map (ready_item j) (mailed j u)) else []) ≡ length (if on then map (ready_item j) (mailed j u) else [])
+    by true = entries-sum (λ i. 1) item_count u (count_items u) (user_name j u) at (map (ready_item j) (mailed j u)) (mailed-once j u) ∙ sym (ones (map (ready_item j) (mailed j u)))
+    by false = refl
+
+-- these are handed over
+pub handed_over-mailed : (j : List Stamped) (at : ℕ) (u : UserId) → handed_over (j ++ record { at = at; event = MailTurn u } ∷ []) ≡ handed_over j + length (mail_items j u)
+handed_over-mailed j at u = handed_over-append j (record { at = at; event = MailTurn u }) ∙ ap (λ n. handed_over j + n) (mail_entries-items j at u)
+
+mail_turned : (j : List Stamped) (at : ℕ) (u : UserId) → length (filter (is_turned j (record { at = at; event = MailTurn u })) (waiting j)) ≡ length (batch_rows j u)
+mail_turned j at u =
+    ap length (sym (batch_rows-waiting j u
+    ∙ filter_same (is_ready_mail_of j u) (is_turned j (record { at = at; event = MailTurn u }))
+    (λ n. moved_round (n.user.0 == u.0) (same_way n.way Mail) (is_ready j n)
+    ∙ ap (λ b. is_ready j n && b) (ap (λ b. same_way n.way Mail && b) (eqb-turned n.user.0 u.0) ∙ sym (turn-user n.user n.way (MailTurn u)))) (waiting j)))
+  where
+    moved_round : (a w r : Bool) → ((a && w) && r) ≡ (r && (w && a))
+    moved_round true true true = refl
+    moved_round true true false = refl
+    moved_round true false true = refl
+    moved_round true false false = refl
+    moved_round false true true = refl
+    moved_round false true false = refl
+    moved_round false false true = refl
+    moved_round false false false = refl
+
+-- and what it drops is switched off
+pub switched_off-mailed : (j : List Stamped) (at : ℕ) (u : UserId) → switched_off (j ++ record { at = at; event = MailTurn u } ∷ []) ≡ switched_off j + dropped j u
+switched_off-mailed j at u =
+    whole (switched_off (j ++ record { at = at; event = MailTurn u } ∷ [])) (switched_off j) (sum_by item_count (mail_entries j at u)) (length (mail_items j u)) (dropped j u) (length (batch_rows j u))
+    (switched_off-append j (record { at = at; event = MailTurn u }) ∙ ap (λ n. switched_off j + n) (mail_turned j at u)) (mail_entries-items j at u) (mail_items-dropped j u)
+  where
+    whole : (after before made items dropped rows : ℕ) → after + made ≡ before + rows → made ≡ items → items + dropped ≡ rows → after ≡ before + dropped
+    whole after before made items dropped rows h k l = omega arith
+
 -- an event clears a waiting notice
 abbrev pub is_cleared_now : List Stamped → Stamped → Notice → Bool
 is_cleared_now j s n = same_account (moved j s n (account_of j n)) LiveQueue
@@ -185,12 +255,12 @@ cleared_live-append j s =
 abbrev pub waiting_with : List Stamped → Account → ℕ
 waiting_with j account = count_by (λ n. same_account (account_of j n) account) (waiting j)
 
--- the counts by what waits, what is in the outbox, what was switched off and what was cleared
+-- the counts by what waits, what was handed over, what is in the outbox, what was switched off and what was cleared
 pub counts_of-waiting : (j : List Stamped) → counts_of j ≡ record {
   flight = in_64_bits (waiting_with j Flight);
   held = in_64_bits (waiting_with j Held);
   ready = in_64_bits (waiting_with j Ready);
-  handed = in_64_bits (length (outbox j));
+  handed = in_64_bits (handed_over j);
   read = 0;
   deleted = 0;
   off = in_64_bits (switched_off j);
@@ -200,4 +270,4 @@ pub counts_of-waiting : (j : List Stamped) → counts_of j ≡ record {
   written = 0;
 }
 counts_of-waiting j =
-    rw (owed_with-waiting j Flight refl, owed_with-waiting j Held refl, owed_with-waiting j Ready refl, owed_with-outbox j, owed_with-none j Read refl, owed_with-none j Deleted refl)
+    rw (owed_with-waiting j Flight refl, owed_with-waiting j Held refl, owed_with-waiting j Ready refl, owed_with-none j Read refl, owed_with-none j Deleted refl)

@@ -2,6 +2,7 @@ pub mod Lists
 pub mod Appended
 pub mod Behind
 pub mod Standing
+pub mod Same
 pub mod SettingLemmas
 pub mod Handed
 pub mod Waiting
@@ -15,6 +16,8 @@ pub mod RunLemmas
 pub mod LawfulLemmas
 pub mod Stamps
 pub mod Periods
+pub mod DueAfter
+pub mod FirstDue
 pub mod Sums
 pub mod Apart
 pub mod Places
@@ -28,6 +31,7 @@ pub mod Search
 pub mod TurnLemmas
 pub mod AscendingSteps
 pub mod SlowLemmas
+pub mod SlowEntries
 pub mod OneMore
 pub mod Conservation
 pub mod PendingChanges

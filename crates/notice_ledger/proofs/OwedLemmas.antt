@@ -29,7 +29,7 @@ slice_get-map f [] n = refl
 slice_get-map f (x ∷ xs) zero = refl
 slice_get-map f (x ∷ xs) (suc n) = slice_get-map f xs n
 
-numbered-map : {A B : Type 0} (f : A → B) (n : ℕ) (xs : List A) → numbered n (map f xs) ≡ option_map f (numbered n xs)
+pub numbered-map : {A B : Type 0} (f : A → B) (n : ℕ) (xs : List A) → numbered n (map f xs) ≡ option_map f (numbered n xs)
 numbered-map f zero xs = refl
 numbered-map f (suc n) xs = slice_get-map f xs n
 

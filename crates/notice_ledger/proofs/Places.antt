@@ -5,6 +5,9 @@ use Rattle.std.specs.Option.{option_map_or}
 use Rattle.std.proofs.lemmas.List.Sums.{sum_by-cons}
 use Rattle.std.proofs.lemmas.Bool.{and_parts}
 use Rattle.chat_model.specs.declared.event.Stamped.{Stamped}
+use Rattle.chat_model.specs.declared.entry.Conversation.{Conversation}
+use Rattle.chat_model.specs.declared.entry.Entry.TheVariants as entry
+use Rattle.chat_model.specs.declared.entry.Item.{Item}
 use Rattle.chat_model.specs.declared.ids.UserId.{UserId}
 use Rattle.chat_model.specs.declared.ids.MessageId.{MessageId}
 use Rattle.chat_model.specs.declared.trigger.Way.{Way}
@@ -12,35 +15,57 @@ use Rattle.chat_model.specs.declared.trigger.Way.TheVariants.{Mail, Push}
 use Rattle.notice_ledger.specs.declared.accounts.Account.{Account}
 use Rattle.notice_ledger.specs.declared.accounts.Account.TheVariants.{NotOwed, Flight, Held, Ready, Handed, Cancelled, LiveQueue}
 use Rattle.notice_ledger.specs.Past.Owed.{Notice, is_of, same_way, notices, account_of, account, is_cancelled, is_pending, waiting}
-use Rattle.notice_ledger.specs.Past.Outbox.{mail_entry, outbox}
+use Rattle.notice_ledger.specs.Past.Outbox.{item, outbox}
 use Rattle.notice_ledger.specs.Conserved.{items_of}
 use Rattle.notice_ledger.proofs.Apart.{Pairwise, AllByRecursion-from_all, Differ, notices-apart}
-use Rattle.notice_ledger.proofs.Handed.{is_handed, outbox-handed, plus_none, none_plus, same_user, same_message, same_ways}
+use Rattle.notice_ledger.proofs.Handed.{is_handed, outbox-handed, plus_none, none_plus}
+use Rattle.notice_ledger.proofs.Same.{same_user, same_message, same_ways}
 use Rattle.notice_ledger.proofs.Standing.{account_of-owed}
-use Rattle.notice_ledger.proofs.Sums.{sum_by_none_where, sum_by_both_where, sum_by-filter}
+use Rattle.notice_ledger.proofs.Sums.{sum_by_same, sum_by_none_where, sum_by_both_where, sum_by-filter}
 
 -- 1 where the notice is still to be handed over, or was
 abbrev pub placed : Account → ℕ
 placed account = cond (is_pending account) 1 0 + cond (is_handed account) 1 0
 
 module _ (u : UserId) (m : MessageId) (w : Way) where
-  -- a mail notice's entry has one item of it
-  item_of : (j : List Stamped) (at : ℕ) (n : Notice) → n.way ≡ Mail → items_of u m w (mail_entry j at n) ≡ cond (is_of u m w n) 1 0
-  item_of j at n e = by w ∙ ap (λ (x : Way). cond (n.user.0 == u.0 && n.number.0 == m.0 && same_way x w) 1 0) (sym e)
+  -- 1 where an item for a user is of it
+  of_it : UserId → Item → ℕ
+  of_it v i = cond (v.0 == u.0 && i.message.0 == m.0 && same_way Mail w) 1 0
+
+  -- an entry has as many of it as its items
+  entry_items : (v : UserId) (name : List ℕ) (at : ℕ) (c : Conversation) (items : List Item) → items_of u m w (entry.Mail v name at c items) ≡ sum_by (of_it v) items
+  unfolding of_it
+  entry_items v name at c items = by w
     where
-      one : (b c : Bool) → ◌≡◌ {A = ℕ} (if b then 0 + cond c 1 0 else 0) (cond (b && c && true) 1 0)
-      one true true = refl
-      one true false = refl
-      one false c = refl
+      none : (b : Bool) (is : List Item) → 0 ≡ sum_by (λ (i : Item). cond (b && i.message.0 == m.0 && false) 1 0) is
+      none b is = sym (sum_by_none_where (λ _. Unit {0}) (λ (i : Item). cond (b && i.message.0 == m.0 && false) 1 0) (λ i _. ends (b && i.message.0 == m.0)) is (AllByRecursion-from_all (λ _. Unit {0}) (λ _. tt) is))
+        where
+          ends : (d : Bool) → ◌≡◌ {A = ℕ} (cond (d && false) 1 0) 0
+          ends true = refl
+          ends false = refl
 
-      none : (b c : Bool) → ◌≡◌ {A = ℕ} 0 (cond (b && c && false) 1 0)
-      none true true = refl
-      none true false = refl
-      none false c = refl
+      some : (is : List Item) → count_by (λ (i : Item). i.message.0 == m.0) is ≡ sum_by (λ (i : Item). cond (true && i.message.0 == m.0 && true) 1 0) is
+      some is = sum_by_same (λ (i : Item). cond (i.message.0 == m.0) 1 0) (λ (i : Item). cond (true && i.message.0 == m.0 && true) 1 0) (λ i. whole (i.message.0 == m.0)) is
+        where
+          whole : (d : Bool) → ◌≡◌ {A = ℕ} (cond d 1 0) (cond (true && d && true) 1 0)
+          whole true = refl
+          whole false = refl
 
-      by : (v : Way) → items_of u m v (mail_entry j at n) ≡ cond (n.user.0 == u.0 && n.number.0 == m.0 && same_way Mail v) 1 0
-      by Mail = one (n.user.0 == u.0) (n.number.0 == m.0)
-      by Push = none (n.user.0 == u.0) (n.number.0 == m.0)
+      off : (is : List Item) → 0 ≡ sum_by (λ (i : Item). cond (false && i.message.0 == m.0 && true) 1 0) is
+      off is = sym (sum_by_none_where (λ _. Unit {0}) (λ (i : Item). cond (false && i.message.0 == m.0 && true) 1 0) (λ i _. refl) is (AllByRecursion-from_all (λ _. Unit {0}) (λ _. tt) is))
+
+      by : (x : Way) → items_of u m x (entry.Mail v name at c items) ≡ sum_by (λ (i : Item). cond (v.0 == u.0 && i.message.0 == m.0 && same_way Mail x) 1 0) items
+      by Mail =
+          elim (v.0 == u.0) as (λ d. (if d then count_by (λ (i : Item). i.message.0 == m.0) items else 0) ≡ sum_by (λ (i : Item). cond (d && i.message.0 == m.0 && true) 1 0) items) [
+            | true ↦ some items
+            | false ↦ off items
+          ]
+      by Push = none (v.0 == u.0) items
+
+  -- a mail notice's item is one of it
+  item_of : (j : List Stamped) (n : Notice) → n.way ≡ Mail → of_it n.user (item j n) ≡ cond (is_of u m w n) 1 0
+  unfolding of_it
+  item_of j n e = ap (λ (x : Way). cond (n.user.0 == u.0 && n.number.0 == m.0 && same_way x w) 1 0) (sym e)
 
   pub waiting_sum : (j : List Stamped) → count_by (is_of u m w) (waiting j) ≡ sum_by (λ n. cond (is_pending (account_of j n)) (cond (is_of u m w n) 1 0) 0) (notices j)
   unfolding waiting
@@ -60,7 +85,7 @@ module _ (u : UserId) (m : MessageId) (w : Way) where
   waiting-outbox : (j : List Stamped) → count_by (is_of u m w) (waiting j) + sum_by (items_of u m w) (outbox j) ≡ sum_by (λ n. cond (is_of u m w n) (placed (account_of j n)) 0) (notices j)
   waiting-outbox j =
       ap (λ a. a + sum_by (items_of u m w) (outbox j)) (waiting_sum j)
-      ∙ (ap (λ b. sum_by (λ n. cond (is_pending (account_of j n)) (cond (is_of u m w n) 1 0) 0) (notices j) + b) (outbox-handed (items_of u m w) (λ n. cond (is_of u m w n) 1 0) item_of j)
+      ∙ (ap (λ b. sum_by (λ n. cond (is_pending (account_of j n)) (cond (is_of u m w n) 1 0) 0) (notices j) + b) (outbox-handed (items_of u m w) of_it (λ n. cond (is_of u m w n) 1 0) entry_items item_of j)
       ∙ sym (sum_by_both_where (λ _. Unit {0}) (λ n. cond (is_of u m w n) (placed (account_of j n)) 0)
       (λ n. cond (is_pending (account_of j n)) (cond (is_of u m w n) 1 0) 0) (λ n. cond (is_handed (account_of j n)) (cond (is_of u m w n) 1 0) 0)
       (λ n _. placed_parts (is_of u m w n) (account_of j n)) (notices j) (AllByRecursion-from_all (λ _. Unit {0}) (λ _. tt) (notices j))))

@@ -2,7 +2,7 @@
 use Rattle.std.proofs.Common.{◌≡◌, ℕ, ◌+◌, ◌-◌, ◌^◌, min, Bool, true, false, List, [], ◌∷◌, ◌++◌, ◌<◌, length, map, take, get_or, refl, sym, ap, ◌∙◌, arith}
 use Rattle.std.specs.Prelude.{Option, Some, None, option_map, option_and_then, is_some, is_none, find, count_by, if◌then◌else◌, cond}
 use Rattle.std.specs.Option.{option_map_or}
-use Rattle.std.proofs.lemmas.List.{length-map, map-append, take_more}
+use Rattle.std.proofs.lemmas.List.{map-append, take_more}
 use Rattle.chat_model.specs.declared.event.Stamped.{Stamped}
 use Rattle.chat_model.specs.declared.ids.UserId.{UserId}
 use Rattle.chat_model.specs.declared.ids.MessageId.{MessageId}
@@ -13,26 +13,12 @@ use Rattle.notice_ledger.specs.declared.accounts.Account.{Account}
 use Rattle.notice_ledger.specs.declared.accounts.Account.TheVariants.{NotOwed, Flight, Held, Ready, Handed, Cancelled, LiveQueue}
 use Rattle.notice_ledger.specs.declared.owed.Owed.{Owed}
 use Rattle.notice_ledger.specs.Past.Journal.{Occurrence}
-use Rattle.notice_ledger.specs.Past.Owed.{is_of, notices, bar_cause, switch_on, account_by, account}
-use Rattle.notice_ledger.specs.Past.Due.{batch_rows}
-use Rattle.notice_ledger.specs.Past.Outbox.{by_message, mailed, mail_entry, mail_entries, outbox}
+use Rattle.notice_ledger.specs.Past.Owed.{is_of, notices, bar_cause, account_by, account}
+use Rattle.notice_ledger.specs.Past.Outbox.{outbox}
 use Rattle.notice_ledger.specs.Past.Audit.{same_account, owed_with, in_64_bits, counts_of}
 use Rattle.notice_ledger.specs.Plain.{owed_kept, ready_kept, cleared_kept, dealt_kept, bar_kept, turn_kept, decided_kept, account_kept, counts_kept, is_of_kept}
 use Rattle.notice_ledger.proofs.Standing.{bar_behind-none}
 use Rattle.notice_ledger.proofs.Sums.{sum_by-map}
-use Rattle.notice_ledger.proofs.Batches.{batch_rows-waiting, by_message-mailed}
-
--- a mail turn with the switch on adds an entry for each batch row
-pub turn_entries-on : (j : List Stamped) (at : ℕ) (u : UserId) (rows : List Owed) → switch_on j u Mail ≡ true → rows ≡ map owed_kept (batch_rows j u) → length rows ≡ length (mail_entries j at u)
-turn_entries-on j at u rows on are =
-    ap length are
-    ∙ (length-map (batch_rows j u) owed_kept
-    ∙ (ap length (batch_rows-waiting j u ∙ sym (by_message-mailed j u))
-    ∙ (sym (length-map (by_message (mailed j u)) (mail_entry j at))
-    ∙ ap (λ b. length (if b then map (mail_entry j at) (by_message (mailed j u)) else [])) (sym on))))
-
-pub turn_entries-off : (j : List Stamped) (at : ℕ) (u : UserId) → switch_on j u Mail ≡ false → 0 ≡ length (mail_entries j at u)
-turn_entries-off j at u off = ap (λ b. length (if b then map (mail_entry j at) (by_message (mailed j u)) else [])) (sym off)
 
 -- counts in 64 bits are added in 64 bits
 pub in_64_bits-more : (r n m a b : ℕ) → r ≡ min (n + m) (2 ^ 64 - 1) → m ≡ b → n ≡ in_64_bits a → r ≡ in_64_bits (a + b)

@@ -16,7 +16,7 @@ use Rattle.chat_model.specs.declared.mentions.GroupName.{GroupName}
 use Rattle.notice_ledger.specs.Past.Values.{numbered, users, Person, person_of, people, named_from, user_names, group_of, groups, named_groups_from, group_names, channel_of, channels, subscribed, subscriber_count}
 use Rattle.notice_ledger.specs.Past.Refusals.{is_taken}
 use Rattle.notice_ledger.proofs.Lists.{count_by-filter_map}
-use Rattle.notice_ledger.proofs.Appended.{people-nil, people-append, groups-nil, groups-append}
+use Rattle.notice_ledger.proofs.Appended.{people-nil, people-append, groups-nil, groups-append, channels-append}
 
 -- ---- users
 
@@ -108,6 +108,16 @@ group_names-more j s names name so_far added =
 pub group_names-same : (j : List Stamped) (s : Stamped) (names : List GroupName) → names ≡ group_names j → None ≡ group_of s.event → names ≡ group_names (j ++ s ∷ [])
 group_names-same j s names so_far none =
     so_far ∙ ap (named_groups_from 1) (sym (groups-append j s ∙ (ap (λ o. groups j ++ option_to_list o) (sym none) ∙ append-nil (groups j))))
+
+-- ---- channels
+
+pub channels-more : (j : List Stamped) (s : Stamped) (names : List (List ℕ)) (name : List ℕ) → names ≡ channels j → Some name ≡ channel_of s.event → names ++ name ∷ [] ≡ channels (j ++ s ∷ [])
+channels-more j s names name so_far added =
+    ap (λ ns. ns ++ name ∷ []) so_far ∙ (ap (λ o. channels j ++ option_to_list o) added ∙ sym (channels-append j s))
+
+pub channels-same : (j : List Stamped) (s : Stamped) (names : List (List ℕ)) → names ≡ channels j → None ≡ channel_of s.event → names ≡ channels (j ++ s ∷ [])
+channels-same j s names so_far none =
+    so_far ∙ (sym (append-nil (channels j)) ∙ (ap (λ o. channels j ++ option_to_list o) none ∙ sym (channels-append j s)))
 
 -- ---- how many there are, and whether one has a number or a name
 

@@ -10,6 +10,10 @@ use Rattle.notice_ledger.specs.Lawful.{lawful}
 abbrev pub mail_entries : List Stamped → ℕ → UserId → List Entry
 mail_entries j at u = past.mail_entries (lawful j) at u
 
+-- how many of a user's batch rows a mail turn makes no item of, behind the lawful events
+abbrev pub dropped : List Stamped → UserId → ℕ
+dropped j u = past.dropped (lawful j) u
+
 -- the entries that the lawful events add, in their order
 abbrev pub outbox : List Stamped → List Entry
 outbox j = past.outbox (lawful j)

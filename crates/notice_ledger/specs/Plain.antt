@@ -1,17 +1,21 @@
 -- What the slow computation keeps of a notice and of a message, and what it computes of them.
-use Rattle.std.specs.Prelude.{ℕ, Bool, false, ◌&&◌, ◌||◌, ◌==◌, not, nat_le, nat_lt, List, [], ◌∷◌, Option, Some, None, option_and_then, unwrap_or, is_none, is_some, length, count_by, if◌then◌else◌}
+use Rattle.std.specs.Prelude.{ℕ, Bool, false, ◌&&◌, ◌||◌, ◌==◌, not, nat_le, nat_lt, List, [], ◌∷◌, Option, Some, None, option_and_then, option_map, unwrap_or, is_none, is_some, length, count_by, if◌then◌else◌}
 use Rattle.std.specs.Option.{option_map_or}
 use Rattle.std.specs.List.{list_any, filter_map, flat_map}
 use Rattle.chat_model.specs.declared.event.Stamped.{Stamped}
 use Rattle.chat_model.specs.declared.counts.Counts.{Counts}
+use Rattle.chat_model.specs.declared.entry.Conversation.{Conversation}
+use Rattle.chat_model.specs.declared.entry.Item.{Item}
 use Rattle.chat_model.specs.declared.facts.Facts.{Facts}
 use Rattle.chat_model.specs.declared.mentions.Mentions.{Mentions}
 use Rattle.chat_model.specs.declared.ids.UserId.{UserId}
 use Rattle.chat_model.specs.declared.ids.MessageId.{MessageId}
 use Rattle.chat_model.specs.declared.mentions.UserName.{UserName}
 use Rattle.chat_model.specs.declared.row.Cause.TheVariants.{Read, Deleted, SwitchedOff}
+use Rattle.chat_model.specs.declared.trigger.Trigger.TheVariants.{Mention}
 use Rattle.chat_model.specs.declared.trigger.Way.{Way}
 use Rattle.chat_model.specs.declared.trigger.Way.TheVariants.{Mail, Push}
+use Rattle.mail_batches.specs.declared.grouping.ReadyItem.{ReadyItem}
 use Rattle.notice_ledger.specs.declared.accounts.Account.{Account}
 use Rattle.notice_ledger.specs.declared.accounts.Account.TheVariants.{Flight, Held, Ready, Handed, Cancelled, LiveQueue}
 use Rattle.notice_ledger.specs.declared.owed.Owed.{Owed}
@@ -21,10 +25,11 @@ use Rattle.chat_model.specs.Triggers.{trigger_of}
 use Rattle.notice_ledger.specs.declared.facts.Heard.{Heard}
 use Rattle.notice_ledger.specs.declared.due.DueUser.{DueUser as FoundDue}
 use Rattle.notice_ledger.specs.Past.Journal.{Occurrence, first_behind, some_behind, absorbs}
-use Rattle.notice_ledger.specs.Past.Values.{numbered, is_one_of, is_member, settings, has_muted}
+use Rattle.notice_ledger.specs.Past.Values.{numbered, messages, is_one_of, is_member, settings, has_muted}
 use Rattle.notice_ledger.specs.Past.Triggers.{goes_to, is_direct, is_participant_of, policy_for, specific_for}
 use Rattle.notice_ledger.specs.Past.Owed.{Notice, same_way, pushes_online, clears, ready_behind, bar_cause, bar_behind, is_turn_of, switch_on, account_by}
 use Rattle.notice_ledger.specs.Past.Due.{DueUser}
+use Rattle.notice_ledger.specs.Past.Outbox.{conversation_of}
 use Rattle.notice_ledger.specs.Past.Audit.{in_64_bits, same_account}
 
 -- a notice as the slow computation keeps it
@@ -112,6 +117,18 @@ account_kept j n =
 abbrev pub is_batch_kept : List Stamped → UserId → Owed → Bool
 is_batch_kept j u n =
     n.user.0 == u.0 && same_way n.way Mail && (is_some (ready_kept j n) && is_none (turn_kept j n))
+
+-- a message's item that shows nothing of it but its number
+abbrev pub bare_item : MessageId → Item
+bare_item m = record { message = m; sender = record { 0 = 0 }; sender_name = []; trigger = Mention; via = None; text = [] }
+
+-- the conversation of a notice's message
+abbrev pub conversation_kept : List Stamped → Owed → Option Conversation
+conversation_kept j n = option_map (λ m. conversation_of j m.sender m.to) (numbered n.message.0 (messages j))
+
+-- a notice's message with its conversation
+abbrev pub ready_item_kept : List Stamped → Owed → Option ReadyItem
+ready_item_kept j n = option_map (λ c. record { conversation = c; item = bare_item n.message }) (conversation_kept j n)
 
 -- a user with a due moment, as it was found
 abbrev pub found_due : FoundDue → DueUser

@@ -24,7 +24,7 @@ pub struct Heard {
 }
 
 /// The item of a number, from 1.
-fn item_at<T>(items: &[T], number: u64) -> Option<&T>
+pub fn item_at<T>(items: &[T], number: u64) -> Option<&T>
     ensures { option_copied result ≡ numbered number items.now }
 {
     if number == 0 {

@@ -13,6 +13,7 @@ mod kept;
 mod laws;
 mod messages;
 mod order;
+mod outbox;
 mod owed;
 mod readiness;
 mod refused;

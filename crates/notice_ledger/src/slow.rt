@@ -1,22 +1,20 @@
 //! The account of a notice and the counts, computed plainly: no table, and the whole list for each question.
-ghost use Rattle.std.specs.Prelude.{◌≡◌, ℕ, map, find, length, count_by, IfOk};
+ghost use Rattle.std.specs.Prelude.{◌≡◌, map, find, count_by, IfOk};
 ghost use Rattle.std.specs.Option.{option_copied};
 ghost use Rattle.notice_ledger.specs.Past.Owed.{same_way};
-ghost use Rattle.notice_ledger.specs.Past.Outbox.{entries_by, mail_entries};
 ghost use Rattle.notice_ledger.specs.Past.Audit.{in_64_bits, same_account, same_cause};
 ghost use Rattle.notice_ledger.specs.Past.Owed as lawful_owed;
-ghost use Rattle.notice_ledger.specs.Past.Outbox as lawful_outbox;
 ghost use Rattle.notice_ledger.specs.Past.Audit as lawful_audit;
 ghost use Rattle.notice_ledger.specs.Owed.{account};
 ghost use Rattle.notice_ledger.specs.Audit.{counts_of};
 ghost use Rattle.notice_ledger.specs.Plain.{account_kept, counts_kept, is_of_kept};
 
 use crate::Account;
-use crate::due::batch_rows;
 use crate::kept::lawful_events;
+use crate::outbox::entry_count;
 use crate::owed::{Owed, notices};
-use crate::turns::{account_of, is_switch_on};
-use chat_model::{Cause, Counts, Event, MessageId, OutOfMemory, Stamped, UserId, Way};
+use crate::turns::account_of;
+use chat_model::{Cause, Counts, MessageId, OutOfMemory, Stamped, UserId, Way};
 use std::alloc::Global;
 
 fn is_same_way(way: Way, other: Way) -> bool
@@ -134,40 +132,6 @@ fn count_of(accounts: &[Account], account: Account) -> u64
     count_among(accounts, account) as u64
 }
 
-/// How many entries a mail turn of the user adds.
-fn turn_entries(alloc: Global, past: &[Stamped], user: UserId) -> Result<usize, OutOfMemory>
-    ensures { (at : ℕ) → IfOk result (λ n. n ≡ length (mail_entries past.now at user)) }
-{
-    if is_switch_on(past, user, Way::Mail) {
-        let rows = batch_rows(alloc, past, user)?;
-        Ok(rows.len())
-    } else {
-        Ok(0)
-    }
-}
-
-/// How many outbox entries an event behind these adds.
-fn entries_by(alloc: Global, past: &[Stamped], stamped: &Stamped) -> Result<usize, OutOfMemory>
-    ensures { IfOk result (λ n. n ≡ length (entries_by past.now stamped.now.at stamped.now.event)) }
-{
-    match &stamped.event {
-        Event::MailTurn(user) => turn_entries(alloc, past, *user),
-        _ => Ok(0),
-    }
-}
-
-/// How many outbox entries the events add.
-fn entries(alloc: Global, events: &[Stamped]) -> Result<u64, OutOfMemory>
-    ensures { IfOk result (λ n. n ≡ in_64_bits (length (lawful_outbox.outbox events.now))) }
-{
-    let mut count: u64 = 0;
-    for i in 0..events.len() {
-        let more = entries_by(alloc, &events[..i], &events[i])?;
-        count = count.saturating_add(more as u64);
-    }
-    Ok(count)
-}
-
 /// The counts of these accounts, with so many entries.
 fn counts_among(accounts: &[Account], entries: u64) -> Counts
     ensures { result ≡ counts_kept accounts.now entries }
@@ -194,7 +158,7 @@ fn lawful_counts(alloc: Global, events: &[Stamped]) -> Result<Counts, OutOfMemor
 {
     let notices = notices(alloc, events)?;
     let accounts = accounts_of(alloc, events, &notices)?;
-    let entries = entries(alloc, events)?;
+    let entries = entry_count(alloc, events)?;
     Ok(counts_among(&accounts, entries))
 }
 

@@ -118,7 +118,7 @@ fn held(held: u64, live: u64) -> Counts {
     found
 }
 
-// So many notices are ready, and so many were handed, each in an entry of its own.
+// So many notices are ready, and so many were handed, each of a conversation of its own.
 fn counts(ready: u64, handed: u64) -> Counts {
     Counts {
         flight: 0,
@@ -400,7 +400,10 @@ fn a_start_readies_what_is_undecided_once(rt: HostRuntime) -> Result<(), Fail> {
     assert_eq!(rt; audit(alloc, &journal)?, counts(4, 0));
     // The first of the starts settles when the mails are due.
     add(&rt, &mut journal, 270, Event::MailTurn(UserId(2)))?;
-    assert_eq!(rt; audit(alloc, &journal)?, counts(2, 2));
+    let mut both = counts(2, 2);
+    // Both are of one topic.
+    both.entries = 1;
+    assert_eq!(rt; audit(alloc, &journal)?, both);
     Ok(())
 }
 
@@ -435,5 +438,73 @@ fn a_period_outside_its_bounds_is_not_set(rt: HostRuntime) -> Result<(), Fail> {
         assert!(rt; !is_mailed(&rt, alloc, period, 219)?, "{period}");
         assert!(rt; is_mailed(&rt, alloc, period, 220)?, "{period}");
     }
+    Ok(())
+}
+
+// A user's message to the topic.
+fn send_by(alloc: Global, sender: u64, topic: &str, text: &str) -> Result<Event, Fail> {
+    Ok(Event::Asked(Request::Send {
+        sender: UserId(sender),
+        channel: ChannelId(1),
+        topic: Text::from_str(alloc, topic)?,
+        text: Text::from_str(alloc, text)?,
+    }))
+}
+
+// A user's direct message to two others.
+fn direct_by(alloc: Global, sender: u64, first: u64, second: u64) -> Result<Event, Fail> {
+    let mut to = List::new(alloc);
+    to.push(UserId(first))?;
+    to.push(UserId(second))?;
+    let text = Text::from_str(alloc, "lunch?")?;
+    Ok(Event::Asked(Request::Direct {
+        sender: UserId(sender),
+        to,
+        text,
+    }))
+}
+
+// Three conversations with Ben in mixed order: a topic, written with two cases, and direct messages of the same users by
+// two senders. The hub deals each with Idle for Ben.
+fn talk(rt: &impl Abort, alloc: Global, journal: &mut Vec<Stamped>) -> Result<(), Fail> {
+    hear(rt, journal, add_user(alloc, "Cleo")?)?;
+    hear(rt, journal, subscription(3))?;
+    hear(rt, journal, direct_by(alloc, 1, 2, 3)?)?;
+    hear(rt, journal, send_by(alloc, 3, "LUNCH", "yes @**Ben**")?)?;
+    hear(rt, journal, direct_by(alloc, 3, 1, 2)?)?;
+    hear(rt, journal, direct_by(alloc, 1, 2, 3)?)?;
+    hear(rt, journal, send_by(alloc, 1, "Lunch", "@**Ben** now")?)?;
+    for deal in 0..6 {
+        hear(rt, journal, dealt(alloc, deal, Verdict::Idle)?)?;
+    }
+    Ok(())
+}
+
+#[test]
+fn a_mail_turn_makes_an_entry_of_each_conversation(rt: HostRuntime) -> Result<(), Fail> {
+    let alloc = rt.alloc();
+    let mut journal = lunch(&rt, alloc)?;
+    talk(&rt, alloc, &mut journal)?;
+    // Ben's six messages by mail and by push; the direct messages to Ada and Cleo by both, of which the hub said nothing.
+    let mut found = held(6, 0);
+    found.ready = 12;
+    assert_eq!(rt; audit(alloc, &journal)?, found);
+    add(&rt, &mut journal, 220, Event::MailTurn(UserId(2)))?;
+    found.ready = 6;
+    found.handed = 6;
+    found.entries = 3;
+    assert_eq!(rt; audit(alloc, &journal)?, found);
+    Ok(())
+}
+
+#[test]
+fn a_switch_that_went_off_and_on_again_hands_over(rt: HostRuntime) -> Result<(), Fail> {
+    let alloc = rt.alloc();
+    let mut journal = lunch(&rt, alloc)?;
+    hear(&rt, &mut journal, dealt(alloc, 0, Verdict::Idle)?)?;
+    hear(&rt, &mut journal, set(SettingChange::MailMentions(false)))?;
+    hear(&rt, &mut journal, set(SettingChange::MailMentions(true)))?;
+    add(&rt, &mut journal, 220, Event::MailTurn(UserId(2)))?;
+    assert_eq!(rt; audit(alloc, &journal)?, counts(1, 1));
     Ok(())
 }

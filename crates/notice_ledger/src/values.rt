@@ -4,8 +4,9 @@ ghost use Rattle.std.specs.List.{list_any};
 ghost use Rattle.std.specs.Option.{option_copied, option_map_or};
 ghost use Rattle.std.specs.Str.{str_eq_ignore_ascii_case};
 ghost use Rattle.notice_ledger.specs.Past.Refusals.{is_taken};
-ghost use Rattle.notice_ledger.specs.Past.Values.{channel_of, channels, group_names, group_of, groups, is_channel, is_group, is_member, is_one_of, is_user, membership_change, people, person_of, subscribed, subscriber_count, subscription_change, user_names};
+ghost use Rattle.notice_ledger.specs.Past.Values.{channel_name, channel_of, channels, group_names, group_of, groups, is_channel, is_group, is_member, is_one_of, is_user, membership_change, people, person_of, subscribed, subscriber_count, subscription_change, user_names};
 
+use crate::facts::item_at;
 use chat_model::{
     ChannelId, Event, GroupId, GroupName, OutOfMemory, Request, Stamped, Text, UserId, UserName,
 };
@@ -37,6 +38,16 @@ fn added_group(event: &Event) -> Option<&Text>
 {
     match event {
         Event::Asked(Request::AddGroup { name, .. }) => Some(name),
+        _ => None,
+    }
+}
+
+/// The name of the channel that the event adds, if it adds one.
+fn added_channel(event: &Event) -> Option<&Text>
+    ensures { option_copied result ≡ channel_of event.now }
+{
+    match event {
+        Event::Asked(Request::AddChannel { name }) => Some(name),
         _ => None,
     }
 }
@@ -82,6 +93,35 @@ pub fn group_names(alloc: Global, past: &[Stamped]) -> Result<Vec<GroupName>, Ou
         }
     }
     Ok(names)
+}
+
+/// The names of the channels, in the order of their numbers.
+fn channel_names(alloc: Global, past: &[Stamped]) -> Result<Vec<Text>, OutOfMemory>
+    ensures { IfOk result (λ names. names.items ≡ channels past.now) }
+{
+    let mut names = Vec::new(alloc);
+    for stamped in past {
+        if let Some(name) = added_channel(&stamped.event) {
+            let name = name.copy()?;
+            names.push(name)?;
+        }
+    }
+    Ok(names)
+}
+
+/// The name of a channel, empty where there is none of that number.
+pub fn channel_name(
+    alloc: Global,
+    past: &[Stamped],
+    channel: ChannelId,
+) -> Result<Text, OutOfMemory>
+    ensures { IfOk result (λ name. name ≡ channel_name past.now channel) }
+{
+    let names = channel_names(alloc, past)?;
+    match item_at(&names, channel.0) {
+        Some(name) => name.copy(),
+        None => Text::from_str(alloc, ""),
+    }
 }
 
 /// Whether the event adds a user.

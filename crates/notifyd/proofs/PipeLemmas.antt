@@ -16,8 +16,8 @@ use Rattle.chat_model.specs.declared.request.Answer.TheVariants.{Done}
 use Rattle.chat_model.specs.declared.deal.Outcome.TheVariants.{Dealt}
 use Rattle.notice_ledger.specs.Journal.{stamp}
 use Rattle.notice_ledger.specs.Deals.{absorbed_since_start, deal, knows}
-use Rattle.notice_ledger.specs.Due.{DueUser, first_due, batch_rows}
-use Rattle.notice_ledger.specs.Outbox.{mail_entries}
+use Rattle.notice_ledger.specs.Due.{DueUser, first_due}
+use Rattle.notice_ledger.specs.Outbox.{mail_entries, dropped}
 use Rattle.notice_ledger.specs.Refusals.{refusal}
 use Rattle.missed_hook.specs.Outstanding.{outstanding}
 use Rattle.presence_queues.specs.Hub.{HubSeen, QueueSeen, queue_at, overdue_user, lowest_queue, unheld, verdicts}
@@ -69,7 +69,7 @@ asked_on (Some refused) w request = stays_same w.hub
 mailed_on : (o : Option DueUser) (w : World) → SendsOn w.hub (mailed_for o w).after.hub
 mailed_on None w = stays_same w.hub
 mailed_on (Some d) w =
-    elim (nat_le d.due (stamp_now w)) as (λ b. SendsOn w.hub (World.hub (Step.after (if b then record { after = with_event w (event.MailTurn d.user); reply = Some (reply.Mail (Mailed d.user (length (mail_entries w.journal (stamp_now w) d.user)) (length (batch_rows w.journal d.user) - length (mail_entries w.journal (stamp_now w) d.user)))) } else record { after = w; reply = Some (reply.Mail (NotDue (Some d.due))) })))) [
+    elim (nat_le d.due (stamp_now w)) as (λ b. SendsOn w.hub (World.hub (Step.after (if b then record { after = with_event w (event.MailTurn d.user); reply = Some (reply.Mail (Mailed d.user (length (mail_entries w.journal (stamp_now w) d.user)) (dropped w.journal d.user))) } else record { after = w; reply = Some (reply.Mail (NotDue (Some d.due))) })))) [
       | true ↦ stays_same w.hub
       | false ↦ stays_same w.hub
     ]
@@ -162,7 +162,7 @@ asked_seen None w request = refl
 asked_seen (Some refused) w request = refl
 
 abbrev turned : DueUser → World → Step
-turned d w = record { after = with_event w (event.MailTurn d.user); reply = Some (reply.Mail (Mailed d.user (length (mail_entries w.journal (stamp_now w) d.user)) (length (batch_rows w.journal d.user) - length (mail_entries w.journal (stamp_now w) d.user)))) }
+turned d w = record { after = with_event w (event.MailTurn d.user); reply = Some (reply.Mail (Mailed d.user (length (mail_entries w.journal (stamp_now w) d.user)) (dropped w.journal d.user))) }
 
 abbrev too_early : DueUser → World → Step
 too_early d w = record { after = w; reply = Some (reply.Mail (NotDue (Some d.due))) }

@@ -12,8 +12,8 @@ use Rattle.chat_model.specs.declared.request.Refusal.TheVariants.{NoUser, BadEve
 use Rattle.chat_model.specs.declared.request.Answer.TheVariants.{User, Group, Channel, Sent, Done}
 use Rattle.office.specs.declared.answer.MailAnswer.TheVariants.{Mailed, NotDue}
 use Rattle.chat_model.specs.declared.event.Event.TheVariants as event
-use Rattle.notice_ledger.specs.Due.{DueUser, first_due, batch_rows}
-use Rattle.notice_ledger.specs.Outbox.{mail_entries}
+use Rattle.notice_ledger.specs.Due.{DueUser, first_due}
+use Rattle.notice_ledger.specs.Outbox.{mail_entries, dropped as rows_dropped}
 use Rattle.notice_ledger.specs.Refusals.{refusal}
 use Rattle.notifyd.specs.Reply.{reply_text}
 use Rattle.notifyd.specs.Words.{answer_words, mail_words, account_words, count_words, refusal_number, limit_words, refusal_words}
@@ -176,7 +176,7 @@ asked_answered (Some refused) w request = refl
 mailed_answered : (o : Option DueUser) (w : World) → is_some (mailed_for o w).reply ≡ true
 mailed_answered None w = refl
 mailed_answered (Some d) w =
-    elim (nat_le d.due (stamp_now w)) as (λ b. is_some (Step.reply (if b then record { after = with_event w (event.MailTurn d.user); reply = Some (reply.Mail (Mailed d.user (length (mail_entries w.journal (stamp_now w) d.user)) (length (batch_rows w.journal d.user) - length (mail_entries w.journal (stamp_now w) d.user)))) } else record { after = w; reply = Some (reply.Mail (NotDue (Some d.due))) })) ≡ true) [
+    elim (nat_le d.due (stamp_now w)) as (λ b. is_some (Step.reply (if b then record { after = with_event w (event.MailTurn d.user); reply = Some (reply.Mail (Mailed d.user (length (mail_entries w.journal (stamp_now w) d.user)) (rows_dropped w.journal d.user))) } else record { after = w; reply = Some (reply.Mail (NotDue (Some d.due))) })) ≡ true) [
       | true ↦ refl
       | false ↦ refl
     ]

@@ -1,12 +1,12 @@
 -- What a line does to the world and is answered, where nothing fails.
-use Rattle.std.specs.Prelude.{◌-◌, length, nat_le, max, Option, Some, None, if◌then◌else◌}
+use Rattle.std.specs.Prelude.{length, nat_le, max, Option, Some, None, if◌then◌else◌}
 use Rattle.chat_model.specs.declared.event.Event.TheVariants as event
 use Rattle.chat_model.specs.declared.request.Request.{Request}
 use Rattle.chat_model.specs.declared.request.Refusal.{Refusal}
 use Rattle.notice_ledger.specs.InOrder.{in_order}
 use Rattle.notice_ledger.specs.Refusals.{refusal}
-use Rattle.notice_ledger.specs.Due.{DueUser, first_due, batch_rows}
-use Rattle.notice_ledger.specs.Outbox.{mail_entries}
+use Rattle.notice_ledger.specs.Due.{DueUser, first_due}
+use Rattle.notice_ledger.specs.Outbox.{mail_entries, dropped}
 use Rattle.notice_ledger.specs.Audit.{counts_of}
 use Rattle.office.specs.declared.answer.MailAnswer.TheVariants.{Mailed, NotDue}
 use Rattle.office.specs.Office.{answer_of}
@@ -30,9 +30,8 @@ asked_unless None w request =
 abbrev pub mailed_for : Option DueUser → World → Step
 mailed_for None w = record { after = w; reply = Some (reply.Mail (NotDue None)) }
 mailed_for (Some d) w =
-    let entries = length (mail_entries w.journal (stamp_now w) d.user) in
     if nat_le d.due (stamp_now w)
-    then record { after = with_event w (event.MailTurn d.user); reply = Some (reply.Mail (Mailed d.user entries (length (batch_rows w.journal d.user) - entries))) }
+    then record { after = with_event w (event.MailTurn d.user); reply = Some (reply.Mail (Mailed d.user (length (mail_entries w.journal (stamp_now w) d.user)) (dropped w.journal d.user))) }
     else record { after = w; reply = Some (reply.Mail (NotDue (Some d.due))) }
 
 -- what a line does where neither memory nor the keeper fails: `at` sets the clock to the greater of itself and the

@@ -91,6 +91,8 @@ at 701
 sweep => ended 2 queues=1
 absorb => absorbed missed 2 0
 audit => audit flight=0 held=0 ready=4 handed=0 read=0 deleted=0 off=0 live=0 entries=0 waiting=0 written=0
+mail => mailed 2 entries=1 dropped=0
+audit => audit flight=0 held=0 ready=2 handed=2 read=0 deleted=0 off=0 live=0 entries=1 waiting=0 written=0
 "#,
     r#"# An ack between a deal and its absorption: outcomes are absorbed as they were sent.
 register 2 => queue 1:1
@@ -222,9 +224,9 @@ absorb => absorbed dealt 2
 absorb => nothing waiting
 audit => audit flight=0 held=2 ready=6 handed=0 read=0 deleted=0 off=0 live=2 entries=0 waiting=0 written=0
 at 220
-mail => mailed 3 entries=3 dropped=0
+mail => mailed 3 entries=1 dropped=0
 mail => not due -
-audit => audit flight=0 held=2 ready=3 handed=3 read=0 deleted=0 off=0 live=2 entries=3 waiting=0 written=0
+audit => audit flight=0 held=2 ready=3 handed=3 read=0 deleted=0 off=0 live=2 entries=1 waiting=0 written=0
 "#,
     r#"# A turn hands over what is ready, and what is held is due by its own miss.
 register 2 => queue 1:1

@@ -102,9 +102,9 @@ ack 2 1:1 none => refused 21
 at 219
 mail => not due 220
 at 220
-mail => mailed 2 entries=2 dropped=0
+mail => mailed 2 entries=1 dropped=0
 "#,
-        "audit => audit flight=0 held=0 ready=2 handed=2 read=0 deleted=0 off=0 live=2 entries=2 waiting=0 written=0",
+        "audit => audit flight=0 held=0 ready=2 handed=2 read=0 deleted=0 off=0 live=2 entries=1 waiting=0 written=0",
     ),
     (
         r#"# What is cleared and not absorbed is held.
@@ -116,7 +116,7 @@ deal => dealt 3 2=live
 absorb => absorbed dealt 3
 ack 2 3:1 0 => items -
 "#,
-        "audit => audit flight=0 held=2 ready=2 handed=2 read=0 deleted=0 off=0 live=2 entries=2 waiting=0 written=0",
+        "audit => audit flight=0 held=2 ready=2 handed=2 read=0 deleted=0 off=0 live=2 entries=1 waiting=0 written=0",
     ),
     (
         r#"# So it is owed after the next start.
@@ -124,13 +124,13 @@ absorb => nothing waiting
 at 300
 user "Cy" => user 3
 "#,
-        "audit => audit flight=0 held=0 ready=4 handed=2 read=0 deleted=0 off=0 live=2 entries=2 waiting=0 written=0",
+        "audit => audit flight=0 held=0 ready=4 handed=2 read=0 deleted=0 off=0 live=2 entries=1 waiting=0 written=0",
     ),
     (
         r#"# Once is enough: another start makes nothing of it ready again.
 mail => not due 340
 "#,
-        "audit => audit flight=0 held=0 ready=4 handed=2 read=0 deleted=0 off=0 live=2 entries=2 waiting=0 written=0",
+        "audit => audit flight=0 held=0 ready=4 handed=2 read=0 deleted=0 off=0 live=2 entries=1 waiting=0 written=0",
     ),
 ];
 

@@ -42,6 +42,8 @@ use std::process::ExitCode;
 use std::{env, io};
 
 #[cfg(test)]
+mod batch_tests;
+#[cfg(test)]
 mod hook_tests;
 #[cfg(test)]
 mod hub_tests;

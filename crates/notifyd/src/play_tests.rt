@@ -1,5 +1,6 @@
 //! A play that was made by hand, and one of which each line is compared with the slow computation.
 use super::*;
+use crate::batch_tests::BATCHES;
 use crate::ending::Met;
 use crate::hook_tests::HOOK;
 use crate::hub_tests::HUB;
@@ -205,6 +206,9 @@ fn the_slow_computation_agrees_behind_each_line(rt: HostRuntime) -> Result<(), F
         follow_counted(&rt, rows)?;
     }
     for rows in PERIODS {
+        follow_counted(&rt, rows)?;
+    }
+    for rows in BATCHES {
         follow_counted(&rt, rows)?;
     }
     Ok(())

@@ -10,8 +10,8 @@ use Rattle.chat_model.specs.declared.event.Stamped.{Stamped}
 use Rattle.chat_model.specs.declared.event.Event.TheVariants.{Restart, MailTurn}
 use Rattle.chat_model.specs.declared.row.Row.{Row}
 use Rattle.keeper.specs.declared.keeper.Kept.{Kept}
-use Rattle.notice_ledger.specs.Due.{DueUser, batch_rows, first_due}
-use Rattle.notice_ledger.specs.Outbox.{mail_entries}
+use Rattle.notice_ledger.specs.Due.{DueUser, first_due}
+use Rattle.notice_ledger.specs.Outbox.{mail_entries, dropped as rows_dropped}
 use Rattle.notice_ledger.specs.Rows.{rows}
 use Rattle.notice_ledger.specs.Journal.{stamp}
 use Rattle.office.specs.Difference.{IsFirstDifference}
@@ -78,4 +78,4 @@ abbrev pub IsMailTurn : List Stamped → ℕ → MailAnswer → List Stamped →
 IsMailTurn j at (NotDue least) after = NoneIsDue j at × (least ≡ least_due j) × (after ≡ j)
 IsMailTurn j at (Mailed user entries dropped) after =
     (d : DueUser) × IsDue j at d × (d.user ≡ user) × (after ≡ j ++ record { at = at; event = MailTurn user } ∷ [])
-    × (entries ≡ length (mail_entries j at user)) × (entries + dropped ≡ length (batch_rows j user))
+    × (entries ≡ length (mail_entries j at user)) × (dropped ≡ rows_dropped j user)

@@ -41,7 +41,7 @@ pub enum StepFault {
 /// What a mail turn did.
 #[derive(Clone, Copy, Debug, PartialEq, Eq)]
 pub enum MailAnswer {
-    /// The user's due notices were handed over in so many entries; so many of them made none.
+    /// The user's batch rows were handed over in so many entries, but for so many of which no item was made.
     Mailed {
         user: UserId,
         entries: u64,

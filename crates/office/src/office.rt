@@ -125,8 +125,8 @@ impl<K: Keeper> Office<K> {
     ghost use Rattle.office.specs.Absorbing.{reached, Uses, HasAbsorbed, IsAbsorption};
     ghost use Rattle.notice_ledger.specs.Deals.{is_fresh};
     ghost use Rattle.book_tables.specs.Tables.{found_due};
-    ghost use Rattle.notice_ledger.specs.Due.{first_due, batch_rows};
-    ghost use Rattle.notice_ledger.specs.Outbox.{outbox};
+    ghost use Rattle.notice_ledger.specs.Due.{first_due};
+    ghost use Rattle.notice_ledger.specs.Outbox.{dropped, outbox};
     ghost use Rattle.notice_ledger.specs.Audit.{counts_of};
     ghost use Rattle.notice_ledger.specs.Journal.{deal_count};
     ghost use Rattle.notice_ledger.specs.Deals.{deal, knows, run_number};
@@ -267,11 +267,11 @@ impl<K: Keeper> Office<K> {
         self.tables.first_due()
     }
 
-    /// How many batch rows the user has.
-    fn batch_rows(&self, user: UserId) -> usize
-        ensures { result ≡ length (batch_rows self.now.journal user) }
+    /// How many of the user's batch rows a mail turn makes no item of.
+    fn dropped(&self, user: UserId) -> usize
+        ensures { result ≡ dropped self.now.journal user }
     {
-        self.tables.batch_rows(user)
+        self.tables.dropped(user)
     }
 
     /// How many entries the outbox has.
@@ -402,7 +402,7 @@ impl<K: Keeper> Office<K> {
             return Ok(MailAnswer::NotDue(Some(first.due)));
         }
         let user = first.user;
-        let rows = self.batch_rows(user);
+        let dropped = self.dropped(user);
         let before = self.entries();
         let event = Event::MailTurn(user);
         self.record(Stamped { at, event })?;
@@ -410,7 +410,7 @@ impl<K: Keeper> Office<K> {
         Ok(MailAnswer::Mailed {
             user,
             entries: entries as u64,
-            dropped: (rows - entries) as u64,
+            dropped: dropped as u64,
         })
     }
 }

@@ -1,12 +1,11 @@
 -- The outbox: the entries that the turns make, numbered from 1 in their order.
-use Rattle.std.specs.Prelude.{ℕ, nat_le, List, [], ◌∷◌, ◌++◌, is_none, option_map, map, filter, if◌then◌else◌}
+use Rattle.std.specs.Prelude.{ℕ, ◌-◌, List, [], ◌∷◌, ◌++◌, length, is_none, option_map, map, filter, if◌then◌else◌}
 use Rattle.std.specs.List.{flat_map}
 use Rattle.chat_model.specs.declared.event.Stamped.{Stamped}
 use Rattle.chat_model.specs.declared.event.Event.{Event}
 use Rattle.chat_model.specs.declared.event.Event.TheVariants.{MailTurn}
 use Rattle.chat_model.specs.declared.entry.Item.{Item}
 use Rattle.chat_model.specs.declared.entry.Entry.{Entry}
-use Rattle.chat_model.specs.declared.entry.Entry.TheVariants.{Mail}
 use Rattle.chat_model.specs.declared.entry.Conversation.{Conversation}
 use Rattle.chat_model.specs.declared.entry.Conversation.TheVariants.{Channel, Direct}
 use Rattle.chat_model.specs.declared.ids.GroupId.{GroupId}
@@ -14,6 +13,8 @@ use Rattle.chat_model.specs.declared.ids.UserId.{UserId}
 use Rattle.chat_model.specs.declared.mentions.GroupName.{GroupName}
 use Rattle.chat_model.specs.declared.trigger.Way.TheVariants as ways
 use Rattle.chat_model.specs.Ascending.{ascending_once_by}
+use Rattle.mail_batches.specs.declared.grouping.ReadyItem.{ReadyItem}
+use Rattle.mail_batches.specs.Entries.{entries_of}
 use Rattle.notice_ledger.specs.declared.destination.Destination.{Destination}
 use Rattle.notice_ledger.specs.declared.destination.Destination.TheVariants as destination
 use Rattle.notice_ledger.specs.Past.Journal.{occurrences}
@@ -49,27 +50,25 @@ conversation_of j sender (destination.Direct to) = Direct (users_of sender to) s
 abbrev pub conversation : List Stamped → Notice → Conversation
 conversation j n = conversation_of j n.message.sender n.message.to
 
--- each message is an entry of its own
-abbrev pub mail_entry : List Stamped → ℕ → Notice → Entry
-mail_entry j at n = Mail n.user (user_name j n.user) at (conversation j n) (item j n ∷ [])
-
--- a notice at its place by message
-abbrev pub put_by_message : Notice → List Notice → List Notice
-put_by_message n [] = n ∷ []
-put_by_message n (m ∷ ms) = if nat_le n.number.0 m.number.0 then n ∷ m ∷ ms else m ∷ put_by_message n ms
-
--- notices with ascending messages
-abbrev pub by_message : List Notice → List Notice
-by_message [] = []
-by_message (n ∷ ns) = put_by_message n (by_message ns)
+-- a notice's message with its conversation, as a mail turn hands them over
+abbrev pub ready_item : List Stamped → Notice → ReadyItem
+ready_item j n = record { conversation = conversation j n; item = item j n }
 
 -- the notices that a user's mail turn hands over: the batch rows before it that have no bar before it
 abbrev pub mailed : List Stamped → UserId → List Notice
 mailed j u = filter (λ n. is_none (bar j n)) (batch_rows j u)
 
--- the entries of a user's mail turn, where the mail switch is on before it
+-- what a user's mail turn hands over, where the mail switch is on before it
+abbrev pub mail_items : List Stamped → UserId → List ReadyItem
+mail_items j u = if switch_on j u ways.Mail then map (ready_item j) (mailed j u) else []
+
+-- how many of a user's batch rows a mail turn makes no item of
+abbrev pub dropped : List Stamped → UserId → ℕ
+dropped j u = length (batch_rows j u) - length (mail_items j u)
+
+-- the entries of a user's mail turn, where the mail switch is on before it: the messages by their conversations
 abbrev pub mail_entries : List Stamped → ℕ → UserId → List Entry
-mail_entries j at u = if switch_on j u ways.Mail then map (mail_entry j at) (by_message (mailed j u)) else []
+mail_entries j at u = if switch_on j u ways.Mail then entries_of u (user_name j u) at (map (ready_item j) (mailed j u)) else []
 
 -- the entries that an event at a stamp adds
 abbrev pub entries_by : List Stamped → ℕ → Event → List Entry

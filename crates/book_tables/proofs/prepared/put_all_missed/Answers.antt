@@ -14,7 +14,7 @@ pub loop-deal-preserved : goal.loop-deal-preserved
 loop-deal-preserved c = λ order.
     let u = c.args.user in let ks = c.args.deals.now in let i = c.loop-deal.deal-index in
     let none : DealNo = record { 0 = 0 } in let k = get_or ks i none in let start = c.args.changes.now.items in
-    let f : (Waiting → Bool) → List RowChange = λ test. puts_where test (readied c.args.at) c.args.waiting.now in
+    let f : (Waiting → Bool) → List RowChange = λ test. puts_where test readied c.args.waiting.now in
     let so_far = flat_map f (named_by u (take i ks)) in
     c.in_ok-put_missed-2.ensures order
     ∙ (ap (λ (cs : List RowChange). cs ++ f (is_undecided_at k u Push)) (c.in_ok-put_missed.ensures order ∙ ap (λ (cs : List RowChange). cs ++ f (is_undecided_at k u Mail)) (c.loop-deal.invariant order))

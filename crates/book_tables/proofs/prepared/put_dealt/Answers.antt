@@ -12,7 +12,7 @@ use Rattle.book_tables.proofs.prepared.put_dealt.Goals as goal
 pub returns : goal.returns
 returns c = λ order.
     let ws = c.args.waiting.now in let s = c.find_deal-stretch.result in
-    let become = dealt_to c.args.at (users_in c.args.idle.now) (users_in c.args.live.now) in
+    let become = dealt_to (users_in c.args.idle.now) (users_in c.args.live.now) in
     c.loop-notice.invariant
     ∙ ap (λ (vs : List Waiting). c.args.changes.now.items ++ map (λ w. Put (notice_row (become w))) vs)
     (ap (filter is_undecided) (take_all c.loop-notice.notice-index (take (s.to - s.from) (drop s.from ws)) c.loop-notice-test.false)

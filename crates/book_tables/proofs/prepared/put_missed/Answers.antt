@@ -12,10 +12,10 @@ pub returns-in_ok-push : goal.returns-in_ok-push
 returns-in_ok-push c = λ order.
     let test = is_undecided_at c.args.deal c.args.user c.args.way in let ws = c.args.waiting.now in let before = c.args.changes.now.items in
     c.in_ok-push.ensures.items
-    ∙ (ap (λ (r : Row). before ++ Put r ∷ []) (c.row_of.ensures ∙ ap notice_row (c.readied.ensures ∙ ap (readied c.args.at) c.index-waiting-place.is))
-    ∙ ap (λ (vs : List Waiting). before ++ map (λ w. Put (notice_row (readied c.args.at w))) vs) (sym (filter-only test ws c.in-Some.place c.index-waiting-place.result (c.in-Some.ensures.found order))))
+    ∙ (ap (λ (r : Row). before ++ Put r ∷ []) (c.row_of.ensures ∙ ap notice_row c.readied.ensures)
+    ∙ ap (λ (vs : List Waiting). before ++ map (λ w. Put (notice_row (readied w))) vs) (sym (filter-only test ws c.in-Some.place _ (c.in-Some.ensures.found order))))
 
 pub returns-in_default : goal.returns-in_default
 returns-in_default c = λ order.
     let test = is_undecided_at c.args.deal c.args.user c.args.way in let ws = c.args.waiting.now in let before = c.args.changes.now.items in
-    sym (append-nil before) ∙ ap (λ (vs : List Waiting). before ++ map (λ w. Put (notice_row (readied c.args.at w))) vs) (sym (filter-none test ws (c.in_default.ensures.found order)))
+    sym (append-nil before) ∙ ap (λ (vs : List Waiting). before ++ map (λ w. Put (notice_row (readied w))) vs) (sym (filter-none test ws (c.in_default.ensures.found order)))

@@ -12,8 +12,8 @@ pub returns-in_ok-push : goal.returns-in_ok-push
 returns-in_ok-push c = λ order.
     let test = is_undecided_at c.args.deal c.args.user c.args.way in let ws = c.args.waiting.now in let before = c.args.changes.now.items in
     c.in_ok-push.ensures.items
-    ∙ (ap (λ (k : RowKey). before ++ Remove k ∷ []) (c.key_of.ensures ∙ ap key_of_notice c.index-waiting-place.is)
-    ∙ ap (λ (vs : List Waiting). before ++ map (λ w. Remove (key_of_notice w)) vs) (sym (filter-only test ws c.in-Some.place c.index-waiting-place.result (c.in-Some.ensures.found order))))
+    ∙ (ap (λ (k : RowKey). before ++ Remove k ∷ []) c.key_of.ensures
+    ∙ ap (λ (vs : List Waiting). before ++ map (λ w. Remove (key_of_notice w)) vs) (sym (filter-only test ws c.in-Some.place _ (c.in-Some.ensures.found order))))
 
 pub returns-in_default : goal.returns-in_default
 returns-in_default c = λ order.

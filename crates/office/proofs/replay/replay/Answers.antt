@@ -15,6 +15,11 @@ prepare-requires c =
     let j = take c.loop-event.event-index c.args.journal.now in
     (j, c.loop-event.invariant, sym (c.lawful.ensures j c.loop-event.invariant) ∙ c.if-lawful.true)
 
+pub apply-requires-clause-prepared : goal.apply-requires-clause-prepared
+apply-requires-clause-prepared c =
+    let j = take c.loop-event.event-index c.args.journal.now in let stood = c.loop-event.invariant in
+    (j, c.event-item.result, c.reserve.ensures.same j stood, sym (c.lawful.ensures j stood) ∙ c.if-lawful.true, c.in_ok-prepared.ensures.prepared j stood)
+
 pub loop-event-preserved : goal.loop-event-preserved
 loop-event-preserved c =
     let i = c.loop-event.event-index in let j = take i c.args.journal.now in let s = c.event-item.result in

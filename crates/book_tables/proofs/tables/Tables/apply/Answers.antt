@@ -6,7 +6,14 @@ use Rattle.book_tables.specs.declared.tables.Tables.{Tables}
 use Rattle.book_tables.specs.Applied.{IsApplied}
 use Rattle.book_tables.specs.Tables.{Holds}
 use Rattle.book_tables.proofs.After.{holds_after, applied_at}
+use Rattle.book_tables.proofs.Sound.{sound_prepared, fits_prepared}
 use Rattle.book_tables.proofs.tables.Tables.apply.Goals as goal
+
+pub make-requires-clause-sound : goal.make-requires-clause-sound
+make-requires-clause-sound c = sound_prepared c.args.self.now c.args.prepared c.requires.prepared
+
+pub make-requires-clause-period : goal.make-requires-clause-period
+make-requires-clause-period c = fits_prepared c.args.self.now c.args.prepared c.requires.prepared
 
 pub returns : goal.returns
 returns c = λ j s h next fits.

@@ -11,9 +11,9 @@ use Rattle.book_tables.proofs.Kept.{filter-short}
 use Rattle.book_tables.proofs.Standing.{counts-there}
 use Rattle.book_tables.proofs.tables.Tables.audit.Goals as goal
 
--- so many notices wait at each stage, so many were handed, switched off and cleared
-abbrev with_counts : ℕ → ℕ → ℕ → ℕ → ℕ → ℕ → Counts
-with_counts flight held waits entries off live = record { flight = flight; held = held; ready = waits; handed = entries; read = 0; deleted = 0; off = off; live = live; entries = entries; waiting = 0; written = 0 }
+-- so many notices wait at each stage, so many were handed over, switched off and cleared, and there are so many entries
+abbrev with_counts : ℕ → ℕ → ℕ → ℕ → ℕ → ℕ → ℕ → Counts
+with_counts flight held waits handed entries off live = record { flight = flight; held = held; ready = waits; handed = handed; read = 0; deleted = 0; off = off; live = live; entries = entries; waiting = 0; written = 0 }
 
 pub returns : goal.returns
 returns c = λ j h.
@@ -24,5 +24,5 @@ returns c = λ j h.
     let flight = many stage.Flight c.deref.result.now c.count_at.result c.count_at.ensures c.deref.ensures.value in
     let held = many stage.Held c.deref-2.result.now c.count_at-2.result c.count_at-2.ensures c.deref-2.ensures.value in
     let waits = many stage.Ready c.deref-3.result.now c.count_at-3.result c.count_at-3.ensures c.deref-3.ensures.value in
-    let entries : c.len-entries.result ≡ in_64_bits (length t.outbox.items) = omega (arith, c.len-entries.ensures, t.outbox.ok.0, t.outbox.small) in
-    (λ i. with_counts (flight i) (held i) (waits i) (entries i) t.off t.live) ∙ counts-there t (lawful j) h
+    let entries : c.len.result ≡ in_64_bits (length t.outbox.items) = omega (arith, c.len.ensures, t.outbox.ok.0, t.outbox.small) in
+    (λ i. with_counts (flight i) (held i) (waits i) t.handed (entries i) t.off t.live) ∙ counts-there t (lawful j) h

@@ -3,7 +3,7 @@ use Rattle.chat_model.specs.declared.event.Stamped.{Stamped}
 use Rattle.notice_ledger.proofs.LawfulLemmas.{IsLawful-nil}
 use Rattle.book_tables.specs.declared.tables.Tables.{Tables}
 use Rattle.book_tables.specs.Tables.{Holds}
-use Rattle.book_tables.proofs.After.{empty_stands}
+use Rattle.book_tables.proofs.Empty.{empty_stands}
 use Rattle.book_tables.proofs.tables.Tables.new.Goals as goal
 
 pub returns : goal.returns
@@ -21,10 +21,12 @@ returns c =
       subscribers = c.new-8.result;
       messages = c.new-9.result;
       waiting = c.new-10.result;
-      deals = c.new-11.result;
-      outbox = c.new-12.result;
+      batches = c.new-11.result;
+      deals = c.new-12.result;
+      outbox = c.new-13.result;
+      handed = 0;
       off = 0;
       live = 0;
     } in
     subst (λ (j : List Stamped). Holds t j) (sym IsLawful-nil)
-    (empty_stands t c.in-Some.ensures.value refl c.new-2.ensures.items c.new-3.ensures.items c.new-5.ensures.items c.new-6.ensures.items c.new-7.ensures.items c.new-8.ensures.items c.new-9.ensures.items c.new-10.ensures.items c.new-11.ensures.items c.new-12.ensures.items c.new-4.ensures.items refl refl)
+    (empty_stands t c.in-Some.ensures.value refl c.new-2.ensures.items c.new-3.ensures.items c.new-5.ensures.items c.new-6.ensures.items c.new-7.ensures.items c.new-8.ensures.items c.new-9.ensures.items c.new-10.ensures.items c.new-11.ensures c.new-12.ensures.items c.new-13.ensures.items c.new-4.ensures.items refl refl refl)

@@ -25,8 +25,8 @@ returns c = λ past h.
     record {
       at = refl;
       changes = as_made _ (c.in_ok-put_dealt.ensures order
-          ∙ (ap (λ (cs : List RowChange). cs ++ puts_where (is_undecided_of k) (dealt_to at idle live) c.deref.result.now) c.new-changes.ensures.items
-          ∙ ap (λ (ws : List Waiting). puts_where (is_undecided_of k) (dealt_to at idle live) ws) c.deref.ensures.value))
+          ∙ (ap (λ (cs : List RowChange). cs ++ puts_where (is_undecided_of k) (dealt_to idle live) c.deref.result.now) c.new-changes.ensures.items
+          ∙ ap (λ (ws : List Waiting). puts_where (is_undecided_of k) (dealt_to idle live) ws) c.deref.ensures.value))
           (changes-dealt t past h at k verdicts idle live are_idle are_live);
       effect = (refl, are_idle, are_live);
     }

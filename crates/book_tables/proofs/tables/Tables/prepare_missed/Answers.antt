@@ -14,7 +14,7 @@ use Rattle.book_tables.proofs.tables.Tables.prepare_missed.Goals as goal
 pub returns : goal.returns
 returns c = λ past h.
     let t = c.args.self.now in
-    let made = λ (ks : List DealNo) (ws : List Waiting). flat_map (λ test. puts_where test (readied c.args.at) ws) (named_by c.args.user ks) in
+    let made = λ (ks : List DealNo) (ws : List Waiting). flat_map (λ test. puts_where test readied ws) (named_by c.args.user ks) in
     let order : IsInOrder c.deref.result.now = subst IsInOrder (sym c.deref.ensures.value) (in_order t past h) in
     record {
       at = refl;

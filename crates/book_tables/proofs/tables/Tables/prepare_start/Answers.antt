@@ -12,8 +12,8 @@ returns c = λ past h.
     let t = c.args.self.now in let at = c.args.at in record {
       at = refl;
       changes = as_made _ (c.in_ok-put_ready.ensures
-          ∙ (ap (λ (cs : List RowChange). cs ++ puts_where is_undecided (readied at) c.deref.result.now) c.new-changes.ensures.items
-          ∙ ap (λ (ws : List Waiting). puts_where is_undecided (readied at) ws) c.deref.ensures.value))
+          ∙ (ap (λ (cs : List RowChange). cs ++ puts_where is_undecided readied c.deref.result.now) c.new-changes.ensures.items
+          ∙ ap (λ (ws : List Waiting). puts_where is_undecided readied ws) c.deref.ensures.value))
           (changes-start t past h at);
       effect = refl;
     }

@@ -2,12 +2,11 @@ use Rattle.std.proofs.Common.{◌≡◌, ℕ, ◌+◌, ◌-◌, ◌≤◌, List,
 use Rattle.chat_model.specs.declared.event.Stamped.{Stamped}
 use Rattle.chat_model.specs.declared.event.Event.TheVariants.{MailTurn}
 use Rattle.notice_ledger.specs.Journal.{stamp}
-use Rattle.notice_ledger.specs.Due.{batch_rows}
 use Rattle.notice_ledger.specs.Past.Outbox as past
 use Rattle.notice_ledger.specs.Lawful.{lawful}
 use Rattle.notice_ledger.proofs.LawfulLemmas.{lawful-next}
-use Rattle.book_tables.specs.Tables.{found_due, switched_at}
-use Rattle.book_tables.proofs.Following.{mail_entries-long, outbox-mails}
+use Rattle.book_tables.specs.Tables.{found_due}
+use Rattle.book_tables.proofs.Following.{outbox-mails}
 use Rattle.office.proofs.Offices.{turn_lawful}
 use Rattle.office.proofs.Reaching.{reached-kept}
 use Rattle.office.proofs.office.Office.mail_turn.Goals as goal
@@ -24,27 +23,19 @@ grown g c =
     ∙ (ap (λ (k : List Stamped). length (past.outbox k)) (ap lawful c.in_ok-record.ensures.ok ∙ lawful-next j event next)
     ∙ (outbox-mails (lawful j) c.stamp-at.result u ∙ ap (λ n. n + length (past.mail_entries (lawful j) c.stamp-at.result u)) (sym c.entries-before.ensures)))
 
--- each batch row is an entry or was switched off
-all_rows : (g : Over) (c : After-entries g) → length (past.mail_entries (lawful c.args.self.now.journal) c.stamp-at.result c.in-Some.first.user) + switched_at (lawful c.args.self.now.journal) c.in-Some.first.user ≡ c.batch_rows-rows.result
-all_rows g c = mail_entries-long (lawful c.args.self.now.journal) c.stamp-at.result c.in-Some.first.user ∙ sym c.batch_rows-rows.ensures
-
 pub overflow_sub-entries : goal.overflow_sub-entries
 overflow_sub-entries g c = omega (arith, grown g c)
-
-pub overflow_sub-result : goal.overflow_sub-result
-overflow_sub-result g c = omega (arith, grown g c, all_rows g c)
 
 pub returns-clause-answered : goal.returns-clause-answered
 returns-clause-answered g c =
     let j = c.args.self.now.journal in let u = c.in-Some.first.user in
-    let made : c.entries.result - c.entries-before.result ≡ length (past.mail_entries (lawful j) c.stamp-at.result u) = omega (arith, grown g c) in
-    let all : (c.entries.result - c.entries-before.result) + (c.batch_rows-rows.result - (c.entries.result - c.entries-before.result)) ≡ c.batch_rows-rows.result = omega (arith, grown g c, all_rows g c) in (
+    let made : c.entries.result - c.entries-before.result ≡ length (past.mail_entries (lawful j) c.stamp-at.result u) = omega (arith, grown g c) in (
       found_due c.in-Some.first,
       record { first = sym c.in-Some.ensures; by_now = subst (λ n. c.in-Some.first.due ≤ n) (c.seconds.ensures.value ∙ c.stamp-at.ensures) c.if-seconds-first.false },
       refl,
       c.in_ok-record.ensures.ok ∙ ap (λ (n : ℕ). j ++ record { at = n; event = MailTurn u } ∷ []) c.stamp-at.ensures,
       made ∙ ap (λ n. length (past.mail_entries (lawful j) n u)) c.stamp-at.ensures,
-      all ∙ c.batch_rows-rows.ensures,
+      c.dropped-dropped.ensures,
     )
 
 pub returns-clause-reached : goal.returns-clause-reached

@@ -1,0 +1,113 @@
+-- Tables that hold what lawful events leave are sound, and so is what is prepared for the next event.
+use Rattle.std.proofs.Common.{◌≡◌, ℕ, ◌+◌, ◌≤◌, true, cond, List, [], ◌∷◌, ◌++◌, refl, sym, ap, ◌∙◌, subst}
+use Rattle.std.specs.Prelude.{IfSome, IsPermutation}
+use Rattle.std.proofs.lemmas.Bool.{eq-eqb}
+use Rattle.chat_model.specs.declared.event.Stamped.{Stamped}
+use Rattle.chat_model.specs.declared.event.Event.{Event}
+use Rattle.chat_model.specs.declared.event.Event.TheVariants.{Restart, Asked, Absorbed, MailTurn}
+use Rattle.chat_model.specs.declared.request.Request.TheVariants.{AddUser, AddGroup, Member, AddChannel, Subscribe, Set, SetChannel, SetPolicy, Mute, Send, Direct}
+use Rattle.chat_model.specs.declared.deal.Outcome.TheVariants.{Dealt, Cleared, Missed}
+use Rattle.chat_model.specs.declared.deal.Deal.{Deal}
+use Rattle.chat_model.specs.declared.deal.UserVerdict.{UserVerdict}
+use Rattle.chat_model.specs.declared.entry.Entry.{Entry}
+use Rattle.chat_model.specs.declared.ids.DealNo.{DealNo}
+use Rattle.chat_model.specs.declared.ids.MessageId.{MessageId}
+use Rattle.chat_model.specs.declared.ids.UserId.{UserId}
+use Rattle.chat_model.specs.declared.mentions.GroupName.{GroupName}
+use Rattle.chat_model.specs.declared.settings.SettingChange.{SettingChange}
+use Rattle.notice_ledger.specs.Lawful.{lawful, is_lawful_after}
+use Rattle.notice_ledger.specs.Limits.{longest_period}
+use Rattle.notice_ledger.specs.Past.Values.{settings}
+use Rattle.notice_ledger.proofs.LawfulLemmas.{lawful-next}
+use Rattle.notice_ledger.proofs.Periods.{period-bounded}
+use Rattle.notice_ledger.proofs.Stamps.{lawful-stamped}
+use Rattle.mail_batches.specs.Batches.{due_of, rows_of}
+use Rattle.book_tables.specs.declared.preferences.Preference.TheVariants as preference
+use Rattle.book_tables.specs.declared.prepared.Effect.{Effect}
+use Rattle.book_tables.specs.declared.prepared.Effect.TheVariants as effect
+use Rattle.book_tables.specs.declared.prepared.Prepared.{Prepared}
+use Rattle.book_tables.specs.declared.tables.Message.{Message}
+use Rattle.book_tables.specs.declared.tables.Tables.{Tables}
+use Rattle.book_tables.specs.declared.tables.Waiting.{Waiting}
+use Rattle.book_tables.specs.Batched.{period_in, messages_to, IsSound, FitsPeriod}
+use Rattle.book_tables.specs.Preferences.{Preferred, preferred_by, preferred_after}
+use Rattle.book_tables.specs.Prepared.{IsGroup, IsMessage, IsDealt, IsMailed, IsEffectOf, WasPrepared}
+use Rattle.book_tables.specs.Tables.{StandsFor}
+use Rattle.book_tables.proofs.BatchesAfter.{held_due}
+use Rattle.book_tables.proofs.Kept.{messages-kept}
+use Rattle.book_tables.proofs.Ordered.{in_order, numbered_so}
+use Rattle.book_tables.proofs.PreferenceLemmas.{after-setting}
+
+module _ (t : Tables) (j : List Stamped) (stands : StandsFor t j) where
+  period_so : (u : UserId) → period_in t.preferences.items u ≡ (settings (lawful j) u).period
+  period_so u = ap (λ (p : Preferred). p.settings.period) (stands.preferences u)
+
+  bounded : (u : UserId) → period_in t.preferences.items u ≤ longest_period
+  bounded u = subst (λ n. n ≤ longest_period) (sym (period_so u)) (period-bounded j u)
+
+  pub sound : IsSound t
+  sound = record {
+    order = in_order t (lawful j) stands;
+    numbered = numbered_so t (lawful j) stands;
+    batches = record {
+      rows = λ u.
+          subst (λ (ms : List MessageId). IsPermutation ms (rows_of t.batches u)) (sym (ap (messages_to u) stands.waiting ∙ messages-kept u (lawful j))) (stands.batches.rows u);
+      periods = bounded;
+    };
+    due = λ u.
+        subst (λ p. IfSome (due_of t.batches u) (λ due. (p ≤ due) × (due ≤ t.last + p))) (sym (period_so u))
+        (subst (λ n. IfSome (due_of t.batches u) (λ due. ((settings (lawful j) u).period ≤ due) × (due ≤ n + (settings (lawful j) u).period))) (sym stands.last)
+        (held_due t.batches (lawful j) stands.batches (lawful-stamped j) u));
+  }
+
+  -- ---- a period that is set
+
+  of_group : (e : Effect) (g : GroupName) (us : List UserId) → IsGroup e g us → FitsPeriod t e
+  of_group (effect.Preference user change) g us fits = absurd fits
+  of_group e g us fits = tt
+
+  of_message : (e : Effect) (m : Message) (ws : List Waiting) (d : Deal) → IsMessage e m ws d → FitsPeriod t e
+  of_message (effect.Preference user change) m ws d fits = absurd fits
+  of_message e m ws d fits = tt
+
+  of_dealt : (e : Effect) (k : DealNo) (verdicts : List UserVerdict) → IsDealt e k verdicts → FitsPeriod t e
+  of_dealt (effect.Preference user change) k verdicts fits = absurd fits
+  of_dealt e k verdicts fits = tt
+
+  of_mailed : (e : Effect) (u : UserId) (es : List Entry) (h n : ℕ) → IsMailed e u es h n → FitsPeriod t e
+  of_mailed (effect.Preference user change) u es h n fits = absurd fits
+  of_mailed e u es h n fits = tt
+
+  -- the period that a lawful request sets isn't longer than the longest
+  of_setting : (at : ℕ) (user : UserId) (change : SettingChange) → is_lawful_after j (record { at = at; event = Asked (Set user change) }) ≡ true → FitsPeriod t (effect.Preference user (preference.Setting change))
+  of_setting at user change next =
+      let s : Stamped = record { at = at; event = Asked (Set user change) } in
+      let set : preferred_by (lawful j ++ s ∷ []) user ≡ preferred_after (preference.Setting change) (preferred_by (lawful j) user) =
+      after-setting (lawful j) at user change user ∙ ap (λ b. cond b (preferred_after (preference.Setting change) (preferred_by (lawful j) user)) (preferred_by (lawful j) user)) (eq-eqb user.0 user.0 refl) in
+      subst (λ (p : Preferred). (preferred_after (preference.Setting change) p).settings.period ≤ longest_period) (sym (stands.preferences user))
+      (subst (λ (p : Preferred). p.settings.period ≤ longest_period) set
+      (subst (λ (k : List Stamped). (settings k user).period ≤ longest_period) (lawful-next j s next) (period-bounded (j ++ s ∷ []) user)))
+
+  pub fits_period : (at : ℕ) (event : Event) (e : Effect) → is_lawful_after j (record { at = at; event = event }) ≡ true → IsEffectOf (lawful j) at event e → FitsPeriod t e
+  fits_period at Restart e next fits = subst (FitsPeriod t) (sym fits) tt
+  fits_period at (Asked (AddUser name bot)) e next fits = subst (FitsPeriod t) (sym fits) tt
+  fits_period at (Asked (AddGroup name members)) e next fits = of_group e _ members fits
+  fits_period at (Asked (Member group user on)) e next fits = subst (FitsPeriod t) (sym fits) tt
+  fits_period at (Asked (AddChannel name)) e next fits = subst (FitsPeriod t) (sym fits) tt
+  fits_period at (Asked (Subscribe user channel on)) e next fits = subst (FitsPeriod t) (sym fits) tt
+  fits_period at (Asked (Set user change)) e next fits = subst (FitsPeriod t) (sym fits) (of_setting at user change next)
+  fits_period at (Asked (SetChannel user channel change)) e next fits = subst (FitsPeriod t) (sym fits) (bounded user)
+  fits_period at (Asked (SetPolicy user channel topic policy)) e next fits = subst (FitsPeriod t) (sym fits) (bounded user)
+  fits_period at (Asked (Mute user other on)) e next fits = subst (FitsPeriod t) (sym fits) (bounded user)
+  fits_period at (Asked (Send sender channel topic text)) e next fits = of_message e _ _ _ fits
+  fits_period at (Asked (Direct sender to text)) e next fits = of_message e _ _ _ fits
+  fits_period at (Absorbed (Dealt k verdicts)) e next fits = of_dealt e k verdicts fits
+  fits_period at (Absorbed (Cleared user deals queue)) e next fits = subst (FitsPeriod t) (sym fits) tt
+  fits_period at (Absorbed (Missed user deals)) e next fits = subst (FitsPeriod t) (sym fits) tt
+  fits_period at (MailTurn user) e next fits = of_mailed e user _ _ _ fits
+
+pub sound_prepared : (t : Tables) (p : Prepared) → WasPrepared t p → IsSound t
+sound_prepared t p was = sound t was.0 was.2
+
+pub fits_prepared : (t : Tables) (p : Prepared) → WasPrepared t p → FitsPeriod t p.effect
+fits_prepared t p was = fits_period t was.0 was.2 was.1.at was.1.event p.effect was.3 was.4.effect

@@ -1,0 +1,135 @@
+//! How many entries the mail turns add, by looking through the whole list of events.
+ghost use Rattle.std.specs.Prelude.{◌≡◌, length, map, option_map, IfOk};
+ghost use Rattle.std.specs.List.{filter_map};
+ghost use Rattle.notice_ledger.specs.Past.Audit.{in_64_bits};
+ghost use Rattle.notice_ledger.specs.Past.Outbox.{conversation_of, entries_by, mail_entries, outbox};
+ghost use Rattle.notice_ledger.specs.Past.Values.{messages, sending_of};
+ghost use Rattle.notice_ledger.specs.Plain.{bare_item, ready_item_kept};
+
+use crate::due::batch_rows;
+use crate::facts::item_at;
+use crate::owed::Owed;
+use crate::turns::is_switch_on;
+use crate::values::channel_name;
+use chat_model::{
+    Conversation, Event, Item, List, MessageId, Moment, OutOfMemory, Request, Stamped, Text,
+    Trigger, UserId, Way, ascending_users,
+};
+use mail_batches::{ReadyItem, entries};
+use std::alloc::Global;
+
+/// The conversation of the message that the event sends, if it sends one.
+fn conversation_of(
+    alloc: Global,
+    past: &[Stamped],
+    event: &Event,
+) -> Result<Option<Conversation>, OutOfMemory>
+    ensures { IfOk result (λ made. made ≡ option_map (λ m. conversation_of past.now m.sender m.to) (sending_of event.now)) }
+{
+    match event {
+        Event::Asked(Request::Send { channel, topic, .. }) => Ok(Some(Conversation::Channel {
+            channel: *channel,
+            name: channel_name(alloc, past, *channel)?,
+            topic: topic.copy()?,
+        })),
+        Event::Asked(Request::Direct { sender, to, .. }) => {
+            let mut users = to.copy()?;
+            users.push(*sender)?;
+            Ok(Some(Conversation::Direct {
+                users: ascending_users(users),
+                sender: *sender,
+            }))
+        }
+        _ => Ok(None),
+    }
+}
+
+/// The conversations of the messages, in the order of their numbers.
+fn conversations(alloc: Global, past: &[Stamped]) -> Result<Vec<Conversation>, OutOfMemory>
+    ensures { IfOk result (λ found. found.items ≡ map (λ m. conversation_of past.now m.sender m.to) (messages past.now)) }
+{
+    let mut found = Vec::new(alloc);
+    for stamped in past {
+        let made = conversation_of(alloc, past, &stamped.event)?;
+        if let Some(conversation) = made {
+            found.push(conversation)?;
+        }
+    }
+    Ok(found)
+}
+
+/// A message's item that shows nothing of it but its number.
+fn bare_item(alloc: Global, message: MessageId) -> Result<Item, OutOfMemory>
+    ensures { IfOk result (λ item. item ≡ bare_item message) }
+{
+    Ok(Item {
+        message,
+        sender: UserId(0),
+        sender_name: Text::from_str(alloc, "")?,
+        trigger: Trigger::Mention,
+        via: None,
+        text: Text::from_str(alloc, "")?,
+    })
+}
+
+/// The messages of these notices with their conversations. How many entries they make is settled by these alone, so
+/// nothing else is shown.
+fn ready_items(
+    alloc: Global,
+    past: &[Stamped],
+    rows: &[Owed],
+) -> Result<List<ReadyItem>, OutOfMemory>
+    ensures { IfOk result (λ items. items ≡ filter_map (ready_item_kept past.now) rows.now) }
+{
+    let conversations = conversations(alloc, past)?;
+    let mut items = List::new(alloc);
+    for row in rows {
+        if let Some(conversation) = item_at(&conversations, row.message.0) {
+            let conversation = conversation.copy(alloc)?;
+            let item = bare_item(alloc, row.message)?;
+            items.push(ReadyItem { conversation, item })?;
+        }
+    }
+    Ok(items)
+}
+
+/// How many entries a mail turn of the user adds.
+fn turn_entries(
+    alloc: Global,
+    past: &[Stamped],
+    user: UserId,
+    at: Moment,
+) -> Result<usize, OutOfMemory>
+    ensures { IfOk result (λ n. n ≡ length (mail_entries past.now at user)) }
+{
+    if !is_switch_on(past, user, Way::Mail) {
+        return Ok(0);
+    }
+    let rows = batch_rows(alloc, past, user)?;
+    let items = ready_items(alloc, past, &rows)?;
+    let name = Text::from_str(alloc, "")?;
+    let entries = entries(alloc, user, &name, at, items)?;
+    Ok(entries.len())
+}
+
+/// How many entries an event behind these adds.
+fn entries_by(alloc: Global, past: &[Stamped], stamped: &Stamped) -> Result<usize, OutOfMemory>
+    ensures { IfOk result (λ n. n ≡ length (entries_by past.now stamped.now.at stamped.now.event)) }
+{
+    match &stamped.event {
+        Event::MailTurn(user) => turn_entries(alloc, past, *user, stamped.at),
+        _ => Ok(0),
+    }
+}
+
+/// How many entries the events add.
+pub fn entry_count(alloc: Global, events: &[Stamped]) -> Result<u64, OutOfMemory>
+    ensures { IfOk result (λ n. n ≡ in_64_bits (length (outbox events.now))) }
+{
+    let mut count: u64 = 0;
+    for i in 0..events.len() {
+        let more = entries_by(alloc, &events[..i], &events[i])?;
+        count = count.saturating_add(more as u64);
+    }
+    Ok(count)
+}
