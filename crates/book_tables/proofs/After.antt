@@ -1,15 +1,13 @@
 -- Tables that stand for a journal stand for it with the next event, once its effect is made: the effect makes of each table
 -- what the event makes of what the table holds.
-use Rattle.std.proofs.Common.{add-zero, ◌≡◌, ℕ, zero, suc, ◌+◌, ◌<◌, ◌≤◌, Bool, true, false, ◌&&◌, ◌==◌, cond, not, List, [], ◌∷◌, ◌++◌, length, map, refl, sym, ap, ◌∙◌, subst, arith, ⊎_elim, length-append}
-use Rattle.std.specs.Prelude.{sum_by, IsPermutation, nat_le, ◌-◌, ◌^◌, min, Option, Some, None, option_map, option_to_list, is_some, is_none, nat_lt, slice_get, unwrap_or, filter, if◌then◌else◌}
-use Rattle.std.specs.Option.{option_map_or}
+use Rattle.std.proofs.Common.{add-zero, ◌≡◌, ℕ, ◌+◌, Bool, true, false, ◌&&◌, ◌==◌, ◌||◌, cond, not, List, [], ◌∷◌, ◌++◌, length, map, drop, refl, sym, ap, ◌∙◌, subst, arith}
+use Rattle.std.specs.Prelude.{nat_le, ◌-◌, ◌^◌, min, Option, Some, None, option_map, option_to_list, is_none, nat_lt, unwrap_or, filter, if◌then◌else◌}
 use Rattle.std.specs.List.{AllByRecursion, list_all}
-use Rattle.std.proofs.lemmas.List.{length-map, map-append, append-nil}
+use Rattle.std.proofs.lemmas.List.{map-append, append-nil}
 use Rattle.std.proofs.lemmas.Bool.{and_parts}
-use Rattle.std.proofs.lemmas.Bool.Decides.{eqb_tells}
 use Rattle.chat_model.specs.declared.event.Stamped.{Stamped}
 use Rattle.chat_model.specs.declared.event.Event.{Event}
-use Rattle.chat_model.specs.declared.event.Event.TheVariants.{Restart, Asked, Absorbed, MailTurn}
+use Rattle.chat_model.specs.declared.event.Event.TheVariants.{Restart, Asked, Absorbed, MailTurn, PushTurn}
 use Rattle.chat_model.specs.declared.request.Request.TheVariants.{AddUser, AddGroup, Member, AddChannel, Subscribe, Set, SetChannel, SetPolicy, Mute, Send, Direct}
 use Rattle.chat_model.specs.declared.request.Request.{Request}
 use Rattle.chat_model.specs.declared.request.Refusal.{Refusal}
@@ -19,400 +17,81 @@ use Rattle.chat_model.specs.declared.deal.Outcome.TheVariants.{Dealt, Cleared, M
 use Rattle.chat_model.specs.declared.deal.QueueId.{QueueId}
 use Rattle.chat_model.specs.declared.deal.UserVerdict.{UserVerdict}
 use Rattle.chat_model.specs.declared.ids.DealNo.{DealNo}
-use Rattle.chat_model.specs.Outcomes.{is_dealt}
-use Rattle.std.proofs.Math.Bool.{and-false}
-use Rattle.std.specs.List.{filter_map}
-use Rattle.std.specs.FinMap as finite
-use Rattle.std.specs.Ordering.{nat_cmp}
+use Rattle.std.proofs.Math.Bool.{and-true, and-false}
 use Rattle.chat_model.specs.declared.ids.UserId.{UserId}
 use Rattle.chat_model.specs.declared.ids.ChannelId.{ChannelId}
 use Rattle.chat_model.specs.declared.ids.GroupId.{GroupId}
+use Rattle.chat_model.specs.declared.ids.MessageId.{MessageId}
+use Rattle.chat_model.specs.declared.push_item.PushItem.TheVariants as item
+use Rattle.chat_model.specs.declared.trigger.Way.TheVariants.{Push}
 use Rattle.chat_model.specs.declared.deal.Deal.{Deal}
 use Rattle.chat_model.specs.declared.entry.Entry.{Entry}
 use Rattle.chat_model.specs.declared.mentions.UserName.{UserName}
 use Rattle.chat_model.specs.declared.mentions.GroupName.{GroupName}
-use Rattle.notice_ledger.specs.Past.Journal.{occurrence, absorbs}
+use Rattle.notice_ledger.specs.Past.Journal.{occurrence}
 use Rattle.notice_ledger.specs.declared.destination.Destination.{Destination}
 use Rattle.notice_ledger.specs.declared.destination.Destination.TheVariants as destination
-use Rattle.chat_model.specs.declared.settings.Settings.{Settings}
-use Rattle.chat_model.specs.Settings.{changed_settings}
-use Rattle.notice_ledger.proofs.SettingLemmas.{settings-append}
-use Rattle.notice_ledger.specs.Past.Values.{settings, numbered, Person, person_of, setting_change, specific_change, policy_change, mute_change, people, named_from, user_names, is_one_of, group_of, groups, named_groups_from, group_names, is_group, membership_change, is_member, channel_of, channels, is_user, is_channel, SentMessage, message_of, messages, subscription_change, subscribed}
-use Rattle.notice_ledger.specs.Past.Owed.{readies, clears, waiting, owed_by, is_mail_turn_of}
+use Rattle.notice_ledger.specs.Past.Values.{Person, person_of, setting_change, specific_change, policy_change, mute_change, people, named_from, user_names, is_one_of, group_of, groups, named_groups_from, group_names, is_group, membership_change, is_member, channel_of, channels, is_user, is_channel, SentMessage, message_of, messages, subscription_change, subscribed}
+use Rattle.notice_ledger.specs.declared.accounts.Account.TheVariants.{Ready}
+use Rattle.notice_ledger.specs.Past.Owed.{readies, owed_by, switch_on, account}
+use Rattle.notice_ledger.specs.Past.Pushes.{waiting_items}
 use Rattle.notice_ledger.specs.Past.Deals.{deal_of, deals}
 use Rattle.notice_ledger.specs.Past.Runs.{is_restart, start_count}
-use Rattle.notice_ledger.specs.Past.Due.{batch_rows}
-use Rattle.notice_ledger.specs.Past.Outbox.{outbox, entries_by, mail_items, mail_entries}
+use Rattle.notice_ledger.specs.Past.Outbox.{outbox, entries_by, mail_items, mail_entries, push_entry, push_entries}
 use Rattle.notice_ledger.specs.Past.Audit.{in_64_bits}
-use Rattle.notice_ledger.proofs.Audited.{handed_over, handed_over-append, handed_over-mailed, item_count, switched_off, switched_off-append, switched_off-mailed, cleared_live, cleared_live-append, is_turned}
+use Rattle.notice_ledger.proofs.Audited.{handed_over, handed_over-mailed, handed_over-pushed, switched_off, switched_off-mailed, switched_off-pushed, cleared_live, cleared_live-append}
 use Rattle.notice_ledger.specs.Past.Refusals.{Rule, rule, first_broken, name_rules, rules_of, refusal, is_taken, is_bad_period}
 use Rattle.notice_ledger.specs.Limits.{longest_topic, most_items}
 use Rattle.notice_ledger.specs.Texts.{is_longer_than}
 use Rattle.notice_ledger.specs.InOrder.{is_ascending, is_in_order}
 use Rattle.notice_ledger.specs.Past.Lawful.{may_stand, is_lawful_after}
 use Rattle.notice_ledger.specs.Past.Journal.{last_stamp}
-use Rattle.notice_ledger.proofs.Lists.{filter_none}
-use Rattle.notice_ledger.proofs.Appended.{people-append, groups-append, is_member-append, channels-append, messages-append, subscribed-append, outbox-append, last_stamp-append}
-use Rattle.notice_ledger.proofs.Waiting.{waiting-pending}
-use Rattle.notice_ledger.proofs.Batches.{is_ready, dropped-switched}
+use Rattle.notice_ledger.proofs.Appended.{people-append, groups-append, is_member-append, channels-append, messages-append, subscribed-append, outbox-append}
+use Rattle.notice_ledger.proofs.Batches.{dropped-switched}
+use Rattle.notice_ledger.proofs.PushNotices.{ready_push, push_entries-ready}
+use Rattle.notice_ledger.proofs.PushTurns.{is_handed-pushed}
+use Rattle.notice_ledger.proofs.PushesWait.{PushesWait, waiting_items-next, turned-ready}
 use Rattle.notice_ledger.proofs.DealLemmas.{deals-append, start_count-append}
+use Rattle.book_tables.specs.declared.pushes.PushKey.{PushKey}
 use Rattle.book_tables.specs.declared.tables.Message.{Message}
-use Rattle.book_tables.specs.declared.tables.Waiting.{Waiting}
 use Rattle.book_tables.specs.declared.tables.Tables.{Tables}
 use Rattle.book_tables.specs.declared.prepared.Effect.{Effect}
 use Rattle.book_tables.specs.declared.prepared.Effect.TheVariants as effect
-use Rattle.book_tables.specs.UserSets.{users_in, users_after, changed_numbered, IsSet}
+use Rattle.book_tables.specs.UserSets.{users_in, IsSet}
 use Rattle.book_tables.specs.declared.preferences.Preference.{Preference}
 use Rattle.book_tables.specs.declared.preferences.Preference.TheVariants as preference
-use Rattle.book_tables.specs.Preferences.{Preferred, default_preferred, preferred, preferred_in, preferred_by, preferred_after}
-use Rattle.mail_batches.specs.Batches.{Waiting as Batches, Batch, due_of, rows_of}
-use Rattle.book_tables.specs.Batched.{period_in, BatchesAfter}
-use Rattle.book_tables.specs.Tables.{Holds, HoldBatches, message_kept, in_flight, request_to, switched_at}
-use Rattle.book_tables.specs.Notices.{is_ready_mail_to, of_deal, dealt_to}
-use Rattle.book_tables.specs.Prepared.{IsEffectOf, IsGroup, IsMessage, IsMailed, IsDealt, IsSendOf}
-use Rattle.book_tables.specs.Applied.{starts_after, names_after, bots_after, preferences_after, groups_after, members_after, channels_after, subscribers_after, messages_after, is_cleared, waiting_after, live_after, deals_after, outbox_after, handed_after, off_after, IsApplied, HoldTheSame}
+use Rattle.book_tables.specs.Preferences.{Preferred, default_preferred, preferred_by, preferred_after}
+use Rattle.book_tables.specs.Tables.{Holds, message_kept, in_flight, request_to, switched_at, push_turn}
+use Rattle.book_tables.specs.Notices.{is_ready_mail_to, of_deal, is_named, readied_if, dealt_to}
+use Rattle.book_tables.specs.Pushes.{has_push}
+use Rattle.book_tables.specs.Prepared.{IsEffectOf, IsGroup, IsMessage, IsMailed, IsStart, IsDealt, IsMissed, IsPushed, IsSendOf, items_made}
+use Rattle.book_tables.specs.Applied.{starts_after, names_after, bots_after, preferences_after, groups_after, members_after, channels_after, subscribers_after, messages_after, is_cleared, active_after, deals_after, handed_after, off_after, IsApplied}
 use Rattle.book_tables.proofs.Numbered.{changed-long}
 use Rattle.book_tables.proofs.BatchesAfter.{BatchesAgree, batches_left, batches_readied, batches_changed, batches_settled}
-use Rattle.book_tables.proofs.Cancelled.{none_cleared_now, cleared_so}
-use Rattle.book_tables.proofs.Moves.{step, kept-append, never_turn, steps_left, steps_start, steps_mails, steps_cleared, steps_missed, steps_dealt}
+use Rattle.book_tables.proofs.Cancelled.{cleared_so}
+use Rattle.book_tables.proofs.Moves.{kept-append, no_start, no_outcome, steps_left, steps_start, steps_mails, steps_push, steps_cleared, steps_missed, steps_dealt}
+use Rattle.book_tables.proofs.PushTurned.{IsHanded, handed_so}
 use Rattle.book_tables.proofs.RowsAfter.{all_kept}
-use Rattle.book_tables.proofs.PreferenceLemmas.{at_number, preferred_in-list, at_number-added, at_number-changed, preferred_by-left, IsPreferredAfter, after-setting, after-specific, after-policy, after-mute}
-use Rattle.book_tables.proofs.UserSets.{is_in, has_in-sets, is_in-added, is_in-changed}
-use Rattle.book_tables.proofs.SetSizes.{are_grown, are_added, are_changed, are_user_sets, numbered-within, user_within, ascending_set}
+use Rattle.book_tables.proofs.PreferenceLemmas.{at_number-added, at_number-changed, preferred_by-left, IsPreferredAfter, after-setting, after-specific, after-policy, after-mute}
+use Rattle.book_tables.proofs.UserSets.{is_in, is_in-added}
+use Rattle.book_tables.proofs.SetSizes.{are_grown, are_added, numbered-within, user_within, ascending_set}
+use Rattle.book_tables.proofs.Agreeing.{named_from-append, and-swap, numbered-there, is_in-opened, named_groups_from-append, next_number, one_longer, sets_changed, KeepsSets, NoticesAgree, PushesAgree, Agrees, agreed, or-false, added, IsCalm, starts_left, same_people, same_groups, same_channels, users_left, still_sets, groups_left, channels_left, messages_left, none_handed, none_off, none_cleared, all_moved, notices_moved, notices_left, same_period, batches_calm, none_added, pushes_left, pushes_readied, pushes_calm, calm_asked}
 
-named_from-append : (n : ℕ) (ps qs : List Person) → named_from n (ps ++ qs) ≡ named_from n ps ++ named_from (n + length ps) qs
-named_from-append n [] qs = ap (λ k. named_from k qs) (omega arith)
-named_from-append n (p ∷ ps) qs =
-    let e : (n + 1) + length ps ≡ n + length (p ∷ ps) = omega arith in
-    ap (λ ns. record { id = record { 0 = n }; name = p.name } ∷ ns) (named_from-append (n + 1) ps qs ∙ ap (λ k. named_from (n + 1) ps ++ named_from k qs) e)
-
-and-swap : (a b : Bool) → (a && b) ≡ (b && a)
-and-swap true true = refl
-and-swap true false = refl
-and-swap false true = refl
-and-swap false false = refl
-
-slice_get-there : {A : Type 0} (n : ℕ) (xs : List A) → n < length xs → is_some (slice_get xs n) ≡ true
-slice_get-there n [] lt = absurd (omega arith)
-slice_get-there zero (x ∷ xs) lt = refl
-slice_get-there (suc n) (x ∷ xs) lt = slice_get-there n xs (omega arith)
-
-numbered-there : {A : Type 0} (n : ℕ) (xs : List A) → 0 < n → n ≤ length xs → is_some (numbered n xs) ≡ true
-numbered-there zero xs low high = absurd (omega arith)
-numbered-there (suc n) xs low high = slice_get-there n xs (omega arith)
-
-past_end : {A : Type 0} (xs : List A) → slice_get xs (length xs) ≡ None
-past_end [] = refl
-past_end (x ∷ xs) = past_end xs
-
--- nobody is in the set behind the last one
-past_none : (sets : List (List UserId)) (u : UserId) → is_in sets (length sets + 1) u ≡ false
-past_none sets u =
-    let e : length sets + 1 ≡ suc (length sets) = omega arith in
-    ap (λ n. is_in sets n u) e ∙ ap (λ o. option_map_or (λ (us : List UserId). is_one_of us u) o false) (past_end sets)
-
--- a set of nobody behind the last one has nobody
-is_in-opened : (sets : List (List UserId)) (n : ℕ) (u : UserId) → is_in (sets ++ [] ∷ []) n u ≡ is_in sets n u
-is_in-opened sets n u =
-    is_in-added sets [] n u
-    ∙ ⊎_elim
-    (λ h. ap (λ b. cond b false (is_in sets n u)) h.0 ∙ sym (ap (λ m. is_in sets m u) (sym h.1) ∙ past_none sets u))
-    (λ h. ap (λ b. cond b false (is_in sets n u)) h.0)
-    (eqb_tells (length sets + 1) n)
-
-named_groups_from-append : (n : ℕ) (xs ys : List (List ℕ)) → named_groups_from n (xs ++ ys) ≡ named_groups_from n xs ++ named_groups_from (n + length xs) ys
-named_groups_from-append n [] ys = ap (λ k. named_groups_from k ys) (omega arith)
-named_groups_from-append n (x ∷ xs) ys =
-    let e : (n + 1) + length xs ≡ n + length (x ∷ xs) = omega arith in
-    ap (λ ns. record { id = record { 0 = n }; name = x } ∷ ns) (named_groups_from-append (n + 1) xs ys ∙ ap (λ k. named_groups_from (n + 1) xs ++ named_groups_from k ys) e)
-
-next_number : (n : ℕ) → 1 + n ≡ n + 1
-next_number n = omega arith
-
-one_longer : {A : Type 0} (xs : List A) (x : A) → length (xs ++ x ∷ []) ≡ length xs + 1
-one_longer xs x = length-append xs (x ∷ [])
-
--- batches of the same users hold the same
-same_batches : (old new : Batches) (j : List Stamped) → new.batches ≡ old.batches → HoldBatches old j → HoldBatches new j
-same_batches old new j same held = record {
-  rows = λ u. subst (IsPermutation (map (λ n. n.number) (batch_rows j u))) (sym (rows u)) (held.rows u);
-  due = λ u. dues u ∙ held.due u;
-}
-  where
-    rows : (u : UserId) → rows_of new u ≡ rows_of old u
-    rows u = ap (λ (bs : finite.FinMap nat_cmp Batch). option_map_or (λ (b : Batch). b.rows) (finite.get bs u.0) []) same
-
-    dues : (u : UserId) → due_of new u ≡ due_of old u
-    dues u = ap (λ (bs : finite.FinMap nat_cmp Batch). option_map (λ (b : Batch). b.due) (finite.get bs u.0)) same
-
--- tables that hold the same stand for the same journal
-pub same_stands : (old new : Tables) (j : List Stamped) → Holds old j → HoldTheSame old new → Holds new j
-same_stands old new j stands same = record {
-  last = same.last ∙ stands.last;
-  starts = same.starts ∙ stands.starts;
-  names = same.names ∙ stands.names;
-  bots = same.bots ∙ stands.bots;
-  preferences = λ u. preferred_in-list new.preferences.items u.0 ∙ (ap (λ ps. at_number ps u.0) same.preferences ∙ (sym (preferred_in-list old.preferences.items u.0) ∙ stands.preferences u));
-  preferences_long = sym (length-map new.preferences.items preferred) ∙ (ap length same.preferences ∙ (length-map old.preferences.items preferred ∙ stands.preferences_long));
-  members = λ g u. has_in-sets new.members.items g.0 u ∙ (ap (λ sets. is_in sets g.0 u) same.members ∙ (sym (has_in-sets old.members.items g.0 u) ∙ stands.members g u));
-  member_sets = are_user_sets (length (groups j)) (length (people j)) new.members.items (map users_in old.members.items) same.members (length-map old.members.items users_in ∙ stands.member_sets.count) stands.member_sets.sets;
-  groups = same.groups ∙ stands.groups;
-  subscribers = λ c u. has_in-sets new.subscribers.items c.0 u ∙ (ap (λ sets. is_in sets c.0 u) same.subscribers ∙ (sym (has_in-sets old.subscribers.items c.0 u) ∙ stands.subscribers c u));
-  subscriber_sets = are_user_sets (length (channels j)) (length (people j)) new.subscribers.items (map users_in old.subscribers.items) same.subscribers (length-map old.subscribers.items users_in ∙ stands.subscriber_sets.count) stands.subscriber_sets.sets;
-  channels = same.channels ∙ stands.channels;
-  messages = same.messages ∙ stands.messages;
-  waiting = same.waiting ∙ stands.waiting;
-  batches = same_batches old.batches new.batches j same.batches stands.batches;
-  deals = same.deals ∙ stands.deals;
-  outbox = same.outbox ∙ stands.outbox;
-  handed = same.handed ∙ stands.handed;
-  off = same.off ∙ stands.off;
-  live = same.live ∙ stands.live;
-}
-
--- ---- what an effect has to make of each table: what the event makes of what the table holds
-
--- the sets that stand by the numbers of groups or channels: who is in each, how many there are, and of which users
-record SetsAgree {K : Type 0} (number : K → ℕ) (has next : K → UserId → Bool) (many more n m : ℕ) (f : List (List UserId) → List (List UserId)) : Type 0 where
-  found : (sets : List (List UserId)) → length sets ≡ many → ((k : K) (u : UserId) → is_in sets (number k) u ≡ has k u) → (k : K) (u : UserId) → is_in (f sets) (number k) u ≡ next k u
-  count : (sets : List (List UserId)) → length sets ≡ many → length (f sets) ≡ more
-  are : (sets : List (List UserId)) → AllByRecursion (IsSet n) sets → AllByRecursion (IsSet m) (f sets)
-
--- where the sets stay
-sets_left : {K : Type 0} (number : K → ℕ) (has next : K → UserId → Bool) (many more n m : ℕ) (f : List (List UserId) → List (List UserId)) → ((sets : List (List UserId)) → f sets ≡ sets) → ((k : K) (u : UserId) → next k u ≡ has k u) → more ≡ many
-    → ((sets : List (List UserId)) → AllByRecursion (IsSet n) sets → AllByRecursion (IsSet m) sets) → SetsAgree number has next many more n m f
-sets_left number has next many more n m f same left as_many kept = record {
-  found = λ sets long is k u. ap (λ x. is_in x (number k) u) (same sets) ∙ (is k u ∙ sym (left k u));
-  count = λ sets long. ap length (same sets) ∙ (long ∙ sym as_many);
-  are = λ sets all. subst (λ (x : List (List UserId)). AllByRecursion (IsSet m) x) (sym (same sets)) (kept sets all);
-}
-
--- where a user comes into a set or goes
-sets_changed : {K : Type 0} (number : K → ℕ) (has next : K → UserId → Bool) (many more n m : ℕ) (h : ℕ) (v : UserId) (on : Bool) → (0 < h) × (h ≤ many) → (0 < v.0) × (v.0 ≤ n)
-    → ((k : K) (u : UserId) → next k u ≡ unwrap_or (if v.0 == u.0 && h == number k then Some on else None) (has k u)) → more ≡ many
-    → ((sets : List (List UserId)) → AllByRecursion (IsSet n) sets → AllByRecursion (IsSet m) sets) → SetsAgree number has next many more n m (changed_numbered h (users_after v on))
-sets_changed number has next many more n m h v on place user comes as_many kept = record {
-  found = λ sets long is k u.
-      is_in-changed sets v h on u (number k) (numbered-there h sets place.0 (omega (arith, place.1, long)))
-      ∙ (ap (λ b. unwrap_or (if v.0 == u.0 && h == number k then Some on else None) b) (is k u) ∙ sym (comes k u));
-  count = λ sets long. changed-long h (users_after v on) sets ∙ (long ∙ sym as_many);
-  are = λ sets all. kept (changed_numbered h (users_after v on) sets) (are_changed n h sets v on all user.0 user.1);
-}
-
--- users, which of them are bots, and what they prefer
-record UsersAgree (j : List Stamped) (s : Stamped) (e : Effect) : Type 0 where
-  named : user_names (j ++ s ∷ []) ≡ names_after e (user_names j)
-  automatic : map (λ (p : Person). p.bot) (people (j ++ s ∷ [])) ≡ bots_after e (map (λ (p : Person). p.bot) (people j))
-  prefer : (all : List Preferred) → length all ≡ length (people j) → ((u : UserId) → at_number all u.0 ≡ preferred_by j u) → (u : UserId) → at_number (preferences_after e all) u.0 ≡ preferred_by (j ++ s ∷ []) u
-  count : (all : List Preferred) → length all ≡ length (people j) → length (preferences_after e all) ≡ length (people (j ++ s ∷ []))
-
--- what is kept of sets of users behind the event
-abbrev KeepsSets : List Stamped → Stamped → Type 0
-KeepsSets j s = (sets : List (List UserId)) → AllByRecursion (IsSet (length (people j))) sets → AllByRecursion (IsSet (length (people (j ++ s ∷ [])))) sets
-
-record GroupsAgree (j : List Stamped) (s : Stamped) (e : Effect) : Type 0 where
-  named : group_names (j ++ s ∷ []) ≡ groups_after e (group_names j)
-  sets : SetsAgree (λ (g : GroupId). g.0) (λ g u. is_member j g u) (λ g u. is_member (j ++ s ∷ []) g u) (length (groups j)) (length (groups (j ++ s ∷ []))) (length (people j)) (length (people (j ++ s ∷ []))) (members_after e)
-
-record ChannelsAgree (j : List Stamped) (s : Stamped) (e : Effect) : Type 0 where
-  named : channels (j ++ s ∷ []) ≡ channels_after e (channels j)
-  sets : SetsAgree (λ (c : ChannelId). c.0) (λ c u. subscribed j u c) (λ c u. subscribed (j ++ s ∷ []) u c) (length (channels j)) (length (channels (j ++ s ∷ []))) (length (people j)) (length (people (j ++ s ∷ []))) (subscribers_after e)
-
-record MessagesAgree (j : List Stamped) (s : Stamped) (e : Effect) : Type 0 where
-  sent : map message_kept (messages (j ++ s ∷ [])) ≡ messages_after e (map message_kept (messages j))
-  dealt : deals (j ++ s ∷ []) ≡ deals_after e (deals j)
-
--- what waits, what was handed, what was switched off and what was cleared
-record NoticesAgree (j : List Stamped) (s : Stamped) (e : Effect) : Type 0 where
-  wait : all_kept (j ++ s ∷ []) ≡ waiting_after e (all_kept j)
-  entries : outbox (j ++ s ∷ []) ≡ outbox_after e (outbox j)
-  handed : in_64_bits (handed_over (j ++ s ∷ [])) ≡ handed_after e (in_64_bits (handed_over j))
-  off : in_64_bits (switched_off (j ++ s ∷ [])) ≡ off_after e (in_64_bits (switched_off j))
-  live : in_64_bits (cleared_live (j ++ s ∷ [])) ≡ live_after e (all_kept j) (in_64_bits (cleared_live j))
-
--- the effect makes of all tables what the event makes of them
-record Agrees (j : List Stamped) (s : Stamped) (e : Effect) : Type 0 where
-  starts : in_64_bits (start_count (j ++ s ∷ [])) ≡ starts_after e (in_64_bits (start_count j))
-  of_users : UsersAgree j s e
-  of_groups : GroupsAgree j s e
-  of_channels : ChannelsAgree j s e
-  of_messages : MessagesAgree j s e
-  of_notices : NoticesAgree j s e
-  of_batches : BatchesAgree j s e
-
--- tables to which such an effect was made stand for the journal with the event
-agreed : (old new : Tables) (j : List Stamped) → Holds old j → (s : Stamped) (e : Effect) → Agrees j s e → IsApplied old new s.at e → new.last ≡ s.at → Holds new (j ++ s ∷ [])
-agreed old new j stands s e agrees applied last =
-    let kept : new.waiting.items ≡ all_kept (j ++ s ∷ []) = applied.waiting ∙ (ap (waiting_after e) stands.waiting ∙ sym agrees.of_notices.wait) in
-    let preferred_so : (u : UserId) → preferred_in new.preferences.items u.0 ≡ preferred_by (j ++ s ∷ []) u =
-    λ u.
-    preferred_in-list new.preferences.items u.0
-    ∙ (ap (λ ps. at_number ps u.0) applied.preferences
-    ∙ agrees.of_users.prefer (map preferred old.preferences.items) (length-map old.preferences.items preferred ∙ stands.preferences_long) (λ v. sym (preferred_in-list old.preferences.items v.0) ∙ stands.preferences v) u) in
-    let users = agrees.of_users in let members = agrees.of_groups.sets in let subscribers = agrees.of_channels.sets in
-    let all = map preferred old.preferences.items in
-    let in_groups = map users_in old.members.items in let in_channels = map users_in old.subscribers.items in
-    let people_long : length all ≡ length (people j) = length-map old.preferences.items preferred ∙ stands.preferences_long in
-    let groups_long : length in_groups ≡ length (groups j) = length-map old.members.items users_in ∙ stands.member_sets.count in
-    let channels_long : length in_channels ≡ length (channels j) = length-map old.subscribers.items users_in ∙ stands.subscriber_sets.count in
-    record {
-      last = last ∙ sym (last_stamp-append j s);
-      starts = applied.starts ∙ (ap (starts_after e) stands.starts ∙ sym agrees.starts);
-      names = applied.names ∙ (ap (names_after e) stands.names ∙ sym users.named);
-      bots = applied.bots ∙ (ap (bots_after e) stands.bots ∙ sym users.automatic);
-      preferences = preferred_so;
-      preferences_long = sym (length-map new.preferences.items preferred) ∙ (ap length applied.preferences ∙ users.count all people_long);
-      members = λ g u.
-          has_in-sets new.members.items g.0 u
-          ∙ (ap (λ sets. is_in sets g.0 u) applied.members ∙ members.found in_groups groups_long (λ h v. sym (has_in-sets old.members.items h.0 v) ∙ stands.members h v) g u);
-      member_sets = are_user_sets (length (groups (j ++ s ∷ []))) (length (people (j ++ s ∷ []))) new.members.items (members_after e in_groups) applied.members (members.count in_groups groups_long) (members.are in_groups stands.member_sets.sets);
-      groups = applied.groups ∙ (ap (groups_after e) stands.groups ∙ sym agrees.of_groups.named);
-      subscribers = λ c u.
-          has_in-sets new.subscribers.items c.0 u
-          ∙ (ap (λ sets. is_in sets c.0 u) applied.subscribers ∙ subscribers.found in_channels channels_long (λ d v. sym (has_in-sets old.subscribers.items d.0 v) ∙ stands.subscribers d v) c u);
-      subscriber_sets = are_user_sets (length (channels (j ++ s ∷ []))) (length (people (j ++ s ∷ []))) new.subscribers.items (subscribers_after e in_channels) applied.subscribers (subscribers.count in_channels channels_long) (subscribers.are in_channels stands.subscriber_sets.sets);
-      channels = applied.channels ∙ (ap (channels_after e) stands.channels ∙ sym agrees.of_channels.named);
-      messages = applied.messages ∙ (ap (messages_after e) stands.messages ∙ sym agrees.of_messages.sent);
-      waiting = kept;
-      batches = agrees.of_batches.after (period_in old.preferences.items) (period_in new.preferences.items) new.waiting.items old.batches new.batches
-          (λ u. ap (λ (p : Preferred). p.settings.period) (stands.preferences u)) (λ u. ap (λ (p : Preferred). p.settings.period) (preferred_so u)) kept stands.batches applied.batches;
-      deals = applied.deals ∙ (ap (deals_after e) stands.deals ∙ sym agrees.of_messages.dealt);
-      outbox = applied.outbox ∙ (ap (outbox_after e) stands.outbox ∙ sym agrees.of_notices.entries);
-      handed = applied.handed ∙ (ap (handed_after e) stands.handed ∙ sym agrees.of_notices.handed);
-      off = applied.off ∙ (ap (off_after e) stands.off ∙ sym agrees.of_notices.off);
-      live = applied.live ∙ ((λ i. live_after e (stands.waiting i) (stands.live i)) ∙ sym agrees.of_notices.live);
-    }
-
--- a count at the end of 64 bits stands still
-added : (n m : ℕ) → min (min n (2 ^ 64 - 1) + m) (2 ^ 64 - 1) ≡ min (n + m) (2 ^ 64 - 1)
-added n m = omega arith
-
--- an event that is nothing to a notice that waits: no turn, and it makes none ready, clears none and absorbs no deal
-record IsCalm (s : Stamped) : Type 0 where
-  never : (u : UserId) → is_mail_turn_of u s.event ≡ false
-  not_ready : (u : UserId) (k : DealNo) (online : Bool) → readies u k online s.event ≡ false
-  not_cleared : (u : UserId) (k : DealNo) → clears u k s.event ≡ false
-  not_dealt : (k : DealNo) → absorbs (is_dealt k) s.event ≡ false
-
--- ---- what an event of another kind leaves
-
-module _ (j : List Stamped) (s : Stamped) (e : Effect) where
-  starts_left : is_restart s.event ≡ false → ((n : ℕ) → starts_after e n ≡ n) → in_64_bits (start_count (j ++ s ∷ [])) ≡ starts_after e (in_64_bits (start_count j))
-  starts_left other same =
-      ap in_64_bits (start_count-append j s ∙ (ap (λ b. start_count j + cond b 1 0) other ∙ add-zero (start_count j))) ∙ sym (same (in_64_bits (start_count j)))
-
-  same_people : person_of s.event ≡ None → people (j ++ s ∷ []) ≡ people j
-  same_people none = people-append j s ∙ (ap (λ o. people j ++ option_to_list o) none ∙ append-nil (people j))
-
-  same_groups : group_of s.event ≡ None → groups (j ++ s ∷ []) ≡ groups j
-  same_groups none = groups-append j s ∙ (ap (λ o. groups j ++ option_to_list o) none ∙ append-nil (groups j))
-
-  same_channels : channel_of s.event ≡ None → channels (j ++ s ∷ []) ≡ channels j
-  same_channels none = channels-append j s ∙ (ap (λ o. channels j ++ option_to_list o) none ∙ append-nil (channels j))
-
-  users_left : person_of s.event ≡ None → ((u : UserId) → setting_change u s.event ≡ None) → ((u : UserId) (c : ChannelId) → specific_change u c s.event ≡ None) → ((u : UserId) (c : ChannelId) (topic : List ℕ) → policy_change u c topic s.event ≡ None) → ((u v : UserId) → mute_change u v s.event ≡ None)
-      → ((ns : List UserName) → names_after e ns ≡ ns) → ((bs : List Bool) → bots_after e bs ≡ bs) → ((ps : List Preferred) → preferences_after e ps ≡ ps) → UsersAgree j s e
-  users_left nobody no_setting no_specific no_policy no_mute same_names same_bots same_preferences =
-      let bot : Person → Bool = λ p. p.bot in
-      record {
-        named = ap (named_from 1) (same_people nobody) ∙ sym (same_names (user_names j));
-        automatic = ap (map bot) (same_people nobody) ∙ sym (same_bots (map bot (people j)));
-        prefer = λ all long is u. ap (λ ps. at_number ps u.0) (same_preferences all) ∙ (is u ∙ sym (preferred_by-left j s u (no_setting u) (no_specific u) (no_policy u) (no_mute u)));
-        count = λ all long. ap length (same_preferences all) ∙ (long ∙ ap length (sym (same_people nobody)));
-      }
-
-  -- sets of users stay sets of users where nobody comes
-  still_sets : person_of s.event ≡ None → KeepsSets j s
-  still_sets nobody sets all = subst (λ (ps : List Person). AllByRecursion (IsSet (length ps)) sets) (sym (same_people nobody)) all
-
-  groups_left : group_of s.event ≡ None → ((g : GroupId) (u : UserId) → membership_change g u j s.event ≡ None) → KeepsSets j s
-      → ((gs : List GroupName) → groups_after e gs ≡ gs) → ((sets : List (List UserId)) → members_after e sets ≡ sets) → GroupsAgree j s e
-  groups_left no_group no_member kept same_names same_sets = record {
-    named = ap (named_groups_from 1) (same_groups no_group) ∙ sym (same_names (group_names j));
-    sets = sets_left (λ (g : GroupId). g.0) (λ g u. is_member j g u) (λ g u. is_member (j ++ s ∷ []) g u) (length (groups j)) (length (groups (j ++ s ∷ []))) (length (people j)) (length (people (j ++ s ∷ []))) (members_after e) same_sets
-        (λ g u. is_member-append j s g u ∙ ap (λ o. unwrap_or o (is_member j g u)) (no_member g u)) (ap length (same_groups no_group)) kept;
-  }
-
-  channels_left : channel_of s.event ≡ None → ((u : UserId) (c : ChannelId) → subscription_change u c s.event ≡ None) → KeepsSets j s
-      → ((cs : List (List ℕ)) → channels_after e cs ≡ cs) → ((sets : List (List UserId)) → subscribers_after e sets ≡ sets) → ChannelsAgree j s e
-  channels_left no_channel no_subscription kept same_names same_sets = record {
-    named = same_channels no_channel ∙ sym (same_names (channels j));
-    sets = sets_left (λ (c : ChannelId). c.0) (λ c u. subscribed j u c) (λ c u. subscribed (j ++ s ∷ []) u c) (length (channels j)) (length (channels (j ++ s ∷ []))) (length (people j)) (length (people (j ++ s ∷ []))) (subscribers_after e) same_sets
-        (λ c u. subscribed-append j s u c ∙ ap (λ o. unwrap_or o (subscribed j u c)) (no_subscription u c)) (ap length (same_channels no_channel)) kept;
-  }
-
-  messages_left : message_of (occurrence j s) ≡ None → ((ms : List Message) → messages_after e ms ≡ ms) → ((ds : List Deal) → deals_after e ds ≡ ds) → MessagesAgree j s e
-  messages_left none same_messages same_deals = record {
-    sent = ap (map message_kept) (messages-append j s ∙ (ap (λ o. messages j ++ option_to_list o) none ∙ append-nil (messages j))) ∙ sym (same_messages (map message_kept (messages j)));
-    dealt = deals-append j s ∙ (ap (λ o. deals j ++ option_to_list (option_map (λ m. deal_of (occurrence j s)) o)) none ∙ (append-nil (deals j) ∙ sym (same_deals (deals j))));
-  }
-
-  -- nothing is handed over or switched off
-  none_handed : entries_by j s.at s.event ≡ [] → handed_over (j ++ s ∷ []) ≡ handed_over j
-  none_handed none =
-      let all = handed_over-append j s in
-      let no_entry = ap (sum_by item_count) none in
-      omega (arith, all, no_entry)
-
-  none_off : ((u : UserId) → is_mail_turn_of u s.event ≡ false) → entries_by j s.at s.event ≡ [] → switched_off (j ++ s ∷ []) ≡ switched_off j
-  none_off never none =
-      let all = switched_off-append j s in
-      let no_entry = ap (sum_by item_count) none in
-      let turned = ap length (filter_none (is_turned j s) (λ n. ap (λ b. is_ready j n && b) (never_turn s never n.user n.way) ∙ and-false (is_ready j n)) (waiting j)) in
-      omega (arith, all, no_entry, turned)
-
-  -- nothing is cleared
-  none_cleared : ((u : UserId) (k : DealNo) → clears u k s.event ≡ false) → cleared_live (j ++ s ∷ []) ≡ cleared_live j
-  none_cleared not_cleared =
-      let all = cleared_live-append j s in let cleared = none_cleared_now j s not_cleared (waiting j) (waiting-pending j) in
-      omega (arith, all, cleared)
-
-  -- what waits after an event that owes nothing
-  all_moved : owed_by (occurrence j s) ≡ [] → all_kept (j ++ s ∷ []) ≡ filter_map (step s) (all_kept j)
-  all_moved none = kept-append j s ∙ (ap (λ ns. filter_map (step s) (all_kept j) ++ map in_flight ns) none ∙ append-nil (filter_map (step s) (all_kept j)))
-
-  -- an event that owes nothing, is no turn and clears nothing
-  notices_moved : ((u : UserId) → is_mail_turn_of u s.event ≡ false) → ((u : UserId) (k : DealNo) → clears u k s.event ≡ false) → owed_by (occurrence j s) ≡ [] → entries_by j s.at s.event ≡ []
-      → ((ws : List Waiting) → waiting_after e ws ≡ filter_map (step s) ws) → ((es : List Entry) → outbox_after e es ≡ es) → ((n : ℕ) → handed_after e n ≡ n) → ((n : ℕ) → off_after e n ≡ n) → ((ws : List Waiting) (n : ℕ) → live_after e ws n ≡ n) → NoticesAgree j s e
-  notices_moved never not_cleared none no_entry moved_so same_outbox same_handed same_off same_live = record {
-    wait = all_moved none ∙ sym (moved_so (all_kept j));
-    entries = outbox-append j s ∙ (ap (λ es. outbox j ++ es) no_entry ∙ (append-nil (outbox j) ∙ sym (same_outbox (outbox j))));
-    handed = ap in_64_bits (none_handed no_entry) ∙ sym (same_handed (in_64_bits (handed_over j)));
-    off = ap in_64_bits (none_off never no_entry) ∙ sym (same_off (in_64_bits (switched_off j)));
-    live = ap in_64_bits (none_cleared not_cleared) ∙ sym (same_live (all_kept j) (in_64_bits (cleared_live j)));
-  }
-
-  notices_left : IsCalm s → owed_by (occurrence j s) ≡ [] → entries_by j s.at s.event ≡ []
-      → ((ws : List Waiting) → waiting_after e ws ≡ ws) → ((es : List Entry) → outbox_after e es ≡ es) → ((n : ℕ) → handed_after e n ≡ n) → ((n : ℕ) → off_after e n ≡ n) → ((ws : List Waiting) (n : ℕ) → live_after e ws n ≡ n) → NoticesAgree j s e
-  notices_left calm none no_entry same_waiting same_outbox same_handed same_off same_live =
-      notices_moved calm.never calm.not_cleared none no_entry (λ ws. same_waiting ws ∙ sym (steps_left s calm.never calm.not_ready calm.not_cleared calm.not_dealt ws)) same_outbox same_handed same_off same_live
-
-  -- no period changes
-  same_period : ((u : UserId) → setting_change u s.event ≡ None) → (u : UserId) → (settings (j ++ s ∷ []) u).period ≡ (settings j u).period
-  same_period no_setting u = ap (λ (p : Settings). p.period) (settings-append j s u ∙ ap (λ o. option_map_or (λ d. changed_settings d (settings j u)) o (settings j u)) (no_setting u))
-
-  batches_calm : IsCalm s → ((u : UserId) → setting_change u s.event ≡ None) → ((p q : UserId → ℕ) (ws : List Waiting) (old new : Batches) → BatchesAfter p q ws s.at e old new → new ≡ old) → BatchesAgree j s e
-  batches_calm calm no_setting stays = batches_left j s e calm.never calm.not_ready (same_period no_setting) stays
-
--- a request is nothing to a notice that waits
-calm_asked : (at : ℕ) (r : Request) → IsCalm (record { at = at; event = Asked r })
-calm_asked at r = record { never = λ u. refl; not_ready = λ u k online. refl; not_cleared = λ u k. refl; not_dealt = λ k. refl }
-
--- ---- each event
-
-module _ (j : List Stamped) where
-  agrees_restart : (at : ℕ) → Agrees j (record { at = at; event = Restart }) effect.Start
-  agrees_restart at =
-      let s : Stamped = record { at = at; event = Restart } in let e = effect.Start in
+module _ (j : List Stamped) (waits : PushesWait j) where
+  agrees_start : (at : ℕ) (e : Effect) → IsStart e (items_made j (record { at = at; event = Restart })) → Agrees j (record { at = at; event = Restart }) e
+  agrees_start at (effect.Start pushes) fits =
+      let s : Stamped = record { at = at; event = Restart } in let e = effect.Start pushes in
       record {
         starts = ap in_64_bits (start_count-append j s) ∙ sym (added (start_count j) 1);
         of_users = users_left j s e refl (λ u. refl) (λ u c. refl) (λ u c topic. refl) (λ u v. refl) (λ ns. refl) (λ bs. refl) (λ ps. refl);
         of_groups = groups_left j s e refl (λ g u. refl) (still_sets j s e refl) (λ gs. refl) (λ sets. refl);
         of_channels = channels_left j s e refl (λ u c. refl) (still_sets j s e refl) (λ cs. refl) (λ sets. refl);
         of_messages = messages_left j s e refl (λ ms. refl) (λ ds. refl);
-        of_notices = notices_moved j s e (λ u. refl) (λ u k. refl) refl refl (λ ws. sym (steps_start at ws)) (λ es. refl) (λ n. refl) (λ n. refl) (λ ws n. refl);
+        of_notices = notices_moved j s e refl no_start (λ u k. refl) refl refl (λ ws. sym (steps_start at ws)) (λ es. refl) (λ n. refl) (λ n. refl) (λ ws n. refl);
         of_batches = batches_readied j s e (λ u. refl) (same_period j s e (λ u. refl)) (λ p q ws old new made. made);
+        of_pushes = pushes_readied j s e waits refl pushes.items fits (λ is. refl) (λ ps. refl);
       }
+  agrees_start at e fits = absurd fits
 
   agrees_user : (at : ℕ) (name : List ℕ) (bot : Bool) → Agrees j (record { at = at; event = Asked (AddUser name bot) }) (effect.User (record { id = record { 0 = length (people j) + 1 }; name = name }) bot)
   agrees_user at name bot =
@@ -435,21 +114,11 @@ module _ (j : List Stamped) where
         of_messages = messages_left j s e refl (λ ms. refl) (λ ds. refl);
         of_notices = notices_left j s e (calm_asked at (AddUser name bot)) refl refl (λ ws. refl) (λ es. refl) (λ n. refl) (λ n. refl) (λ ws n. refl);
         of_batches = batches_calm j s e (calm_asked at (AddUser name bot)) (λ u. refl) (λ p q ws old new made. made);
+        of_pushes = pushes_calm j s e waits (calm_asked at (AddUser name bot)) (λ is. refl) (λ ps. refl);
       }
 
   agrees_group : (at : ℕ) (name : List ℕ) (members : List UserId) (e : Effect) → list_all (is_user j) members ≡ true → is_ascending members ≡ true
       → IsGroup e (record { id = record { 0 = length (groups j) + 1 }; name = name }) members → Agrees j (record { at = at; event = Asked (AddGroup name members) }) e
-  agrees_group at name members effect.Start there ascending fits = absurd fits
-  agrees_group at name members (effect.User user bot) there ascending fits = absurd fits
-  agrees_group at name members (effect.Membership group user on) there ascending fits = absurd fits
-  agrees_group at name members (effect.Channel channel) there ascending fits = absurd fits
-  agrees_group at name members (effect.Subscription ch user on) there ascending fits = absurd fits
-  agrees_group at name members (effect.Preference user change) there ascending fits = absurd fits
-  agrees_group at name members (effect.Message message new_waiting deal) there ascending fits = absurd fits
-  agrees_group at name members (effect.Dealt d idle live) there ascending fits = absurd fits
-  agrees_group at name members (effect.Cleared u ds) there ascending fits = absurd fits
-  agrees_group at name members (effect.Missed u ds) there ascending fits = absurd fits
-  agrees_group at name members (effect.Mailed user entries handed off) there ascending fits = absurd fits
   agrees_group at name members (effect.Group group set) there ascending fits =
       let s : Stamped = record { at = at; event = Asked (AddGroup name members) } in
       let e = effect.Group group set in let n = length (people j) in
@@ -474,11 +143,13 @@ module _ (j : List Stamped) where
         of_messages = messages_left j s e refl (λ ms. refl) (λ ds. refl);
         of_notices = notices_left j s e (calm_asked at (AddGroup name members)) refl refl (λ ws. refl) (λ es. refl) (λ n. refl) (λ n. refl) (λ ws n. refl);
         of_batches = batches_calm j s e (calm_asked at (AddGroup name members)) (λ u. refl) (λ p q ws old new made. made);
+        of_pushes = pushes_calm j s e waits (calm_asked at (AddGroup name members)) (λ is. refl) (λ ps. refl);
       }
     where
       chosen : (b x y : Bool) → unwrap_or (if b then Some x else None) y ≡ cond b x y
       chosen true x y = refl
       chosen false x y = refl
+  agrees_group at name members e there ascending fits = absurd fits
 
   agrees_member : (at : ℕ) (h : GroupId) (v : UserId) (on : Bool) → is_user j v ≡ true → is_group j h ≡ true → Agrees j (record { at = at; event = Asked (Member h v on) }) (effect.Membership h v on)
   agrees_member at h v on user_there group_there =
@@ -493,6 +164,7 @@ module _ (j : List Stamped) where
         of_messages = messages_left j s e refl (λ ms. refl) (λ ds. refl);
         of_notices = notices_left j s e (calm_asked at (Member h v on)) refl refl (λ ws. refl) (λ es. refl) (λ n. refl) (λ n. refl) (λ ws n. refl);
         of_batches = batches_calm j s e (calm_asked at (Member h v on)) (λ u. refl) (λ p q ws old new made. made);
+        of_pushes = pushes_calm j s e waits (calm_asked at (Member h v on)) (λ is. refl) (λ ps. refl);
       }
 
   agrees_channel : (at : ℕ) (name : List ℕ) → Agrees j (record { at = at; event = Asked (AddChannel name) }) (effect.Channel name)
@@ -514,6 +186,7 @@ module _ (j : List Stamped) where
         of_messages = messages_left j s e refl (λ ms. refl) (λ ds. refl);
         of_notices = notices_left j s e (calm_asked at (AddChannel name)) refl refl (λ ws. refl) (λ es. refl) (λ n. refl) (λ n. refl) (λ ws n. refl);
         of_batches = batches_calm j s e (calm_asked at (AddChannel name)) (λ u. refl) (λ p q ws old new made. made);
+        of_pushes = pushes_calm j s e waits (calm_asked at (AddChannel name)) (λ is. refl) (λ ps. refl);
       }
 
   agrees_subscription : (at : ℕ) (v : UserId) (h : ChannelId) (on : Bool) → is_user j v ≡ true → is_channel j h ≡ true → Agrees j (record { at = at; event = Asked (Subscribe v h on) }) (effect.Subscription h v on)
@@ -529,6 +202,7 @@ module _ (j : List Stamped) where
         of_messages = messages_left j s e refl (λ ms. refl) (λ ds. refl);
         of_notices = notices_left j s e (calm_asked at (Subscribe v h on)) refl refl (λ ws. refl) (λ es. refl) (λ n. refl) (λ n. refl) (λ ws n. refl);
         of_batches = batches_calm j s e (calm_asked at (Subscribe v h on)) (λ u. refl) (λ p q ws old new made. made);
+        of_pushes = pushes_calm j s e waits (calm_asked at (Subscribe v h on)) (λ is. refl) (λ ps. refl);
       }
 
   -- an event that sends a message
@@ -537,21 +211,10 @@ module _ (j : List Stamped) where
       → ((u : UserId) → setting_change u s.event ≡ None) → ((u : UserId) (c : ChannelId) → specific_change u c s.event ≡ None) → ((u : UserId) (c : ChannelId) (topic : List ℕ) → policy_change u c topic s.event ≡ None) → ((u v : UserId) → mute_change u v s.event ≡ None)
       → IsCalm s → entries_by j s.at s.event ≡ []
       → (e : Effect) → IsMessage e (message_kept m) (map in_flight (owed_by (occurrence j s))) (deal_of (occurrence j s)) → Agrees j s e
-  agrees_sent s m sends no_start nobody no_group no_channel no_member no_subscription no_setting no_specific no_policy no_mute calm no_entry effect.Start fits = absurd fits
-  agrees_sent s m sends no_start nobody no_group no_channel no_member no_subscription no_setting no_specific no_policy no_mute calm no_entry (effect.User user bot) fits = absurd fits
-  agrees_sent s m sends no_start nobody no_group no_channel no_member no_subscription no_setting no_specific no_policy no_mute calm no_entry (effect.Group group members) fits = absurd fits
-  agrees_sent s m sends no_start nobody no_group no_channel no_member no_subscription no_setting no_specific no_policy no_mute calm no_entry (effect.Membership group user on) fits = absurd fits
-  agrees_sent s m sends no_start nobody no_group no_channel no_member no_subscription no_setting no_specific no_policy no_mute calm no_entry (effect.Channel name) fits = absurd fits
-  agrees_sent s m sends no_start nobody no_group no_channel no_member no_subscription no_setting no_specific no_policy no_mute calm no_entry (effect.Subscription ch user on) fits = absurd fits
-  agrees_sent s m sends no_start nobody no_group no_channel no_member no_subscription no_setting no_specific no_policy no_mute calm no_entry (effect.Preference user change) fits = absurd fits
-  agrees_sent s m sends no_start nobody no_group no_channel no_member no_subscription no_setting no_specific no_policy no_mute calm no_entry (effect.Dealt d idle live) fits = absurd fits
-  agrees_sent s m sends no_start nobody no_group no_channel no_member no_subscription no_setting no_specific no_policy no_mute calm no_entry (effect.Cleared u ds) fits = absurd fits
-  agrees_sent s m sends no_start nobody no_group no_channel no_member no_subscription no_setting no_specific no_policy no_mute calm no_entry (effect.Missed u ds) fits = absurd fits
-  agrees_sent s m sends no_start nobody no_group no_channel no_member no_subscription no_setting no_specific no_policy no_mute calm no_entry (effect.Mailed user entries handed off) fits = absurd fits
-  agrees_sent s m sends no_start nobody no_group no_channel no_member no_subscription no_setting no_specific no_policy no_mute calm no_entry (effect.Message message owed deal) fits =
+  agrees_sent s m sends no_restart nobody no_group no_channel no_member no_subscription no_setting no_specific no_policy no_mute calm no_entry (effect.Message message owed deal) fits =
       let e = effect.Message message owed deal in
       record {
-        starts = starts_left j s e no_start (λ n. refl);
+        starts = starts_left j s e no_restart (λ n. refl);
         of_users = users_left j s e nobody no_setting no_specific no_policy no_mute (λ ns. refl) (λ bs. refl) (λ ps. refl);
         of_groups = groups_left j s e no_group no_member (still_sets j s e nobody) (λ gs. refl) (λ sets. refl);
         of_channels = channels_left j s e no_channel no_subscription (still_sets j s e nobody) (λ cs. refl) (λ sets. refl);
@@ -562,12 +225,14 @@ module _ (j : List Stamped) where
         of_notices = record {
           wait = kept-append j s ∙ (ap (λ ws. ws ++ map in_flight (owed_by (occurrence j s))) (steps_left s calm.never calm.not_ready calm.not_cleared calm.not_dealt (all_kept j)) ∙ ap (λ ws. all_kept j ++ ws) (sym fits.1));
           entries = outbox-append j s ∙ (ap (λ es. outbox j ++ es) no_entry ∙ append-nil (outbox j));
-          handed = ap in_64_bits (none_handed j s e no_entry);
-          off = ap in_64_bits (none_off j s e calm.never no_entry);
+          handed = ap in_64_bits (none_handed j s e calm.other no_entry);
+          off = ap in_64_bits (none_off j s e calm.other calm.never no_entry);
           live = ap in_64_bits (none_cleared j s e calm.not_cleared);
         };
         of_batches = batches_calm j s e calm no_setting (λ p q ws old new made. made);
+        of_pushes = pushes_calm j s e waits calm (λ is. refl) (λ ps. refl);
       }
+  agrees_sent s m sends no_restart nobody no_group no_channel no_member no_subscription no_setting no_specific no_policy no_mute calm no_entry e fits = absurd fits
 
   agrees_send : (at : ℕ) (sender : UserId) (to : Destination) (text : List ℕ) (e : Effect) → IsSendOf j at sender to text e → Agrees j (record { at = at; event = Asked (request_to sender to text) }) e
   agrees_send at sender (destination.Channel channel topic) text e fits =
@@ -581,10 +246,10 @@ module _ (j : List Stamped) where
   agrees_preference : (s : Stamped) (v : UserId) (change : Preference) → is_user j v ≡ true → IsPreferredAfter j s v change
       → is_restart s.event ≡ false → person_of s.event ≡ None → group_of s.event ≡ None → channel_of s.event ≡ None → ((g : GroupId) (u : UserId) → membership_change g u j s.event ≡ None) → ((u : UserId) (c : ChannelId) → subscription_change u c s.event ≡ None)
       → IsCalm s → entries_by j s.at s.event ≡ [] → message_of (occurrence j s) ≡ None → owed_by (occurrence j s) ≡ [] → Agrees j s (effect.Preference v change)
-  agrees_preference s v change there after no_start nobody no_group no_channel no_member no_subscription calm no_entry no_message owes_none =
+  agrees_preference s v change there after no_restart nobody no_group no_channel no_member no_subscription calm no_entry no_message owes_none =
       let e = effect.Preference v change in let user = user_within j v there in
       record {
-        starts = starts_left j s e no_start (λ n. refl);
+        starts = starts_left j s e no_restart (λ n. refl);
         of_users = record {
           named = ap (named_from 1) (same_people j s e nobody);
           automatic = ap (map (λ (p : Person). p.bot)) (same_people j s e nobody);
@@ -597,7 +262,8 @@ module _ (j : List Stamped) where
         of_channels = channels_left j s e no_channel no_subscription (still_sets j s e nobody) (λ cs. refl) (λ sets. refl);
         of_messages = messages_left j s e no_message (λ ms. refl) (λ ds. refl);
         of_notices = notices_left j s e calm owes_none no_entry (λ ws. refl) (λ es. refl) (λ n. refl) (λ n. refl) (λ ws n. refl);
-        of_batches = batches_changed j s v change calm.never calm.not_ready (λ u other. ap (λ (p : Preferred). p.settings.period) (after u ∙ ap (λ b. cond b (preferred_after change (preferred_by j u)) (preferred_by j u)) other));
+        of_batches = batches_changed j s v change calm.never.mail calm.not_ready (λ u other. ap (λ (p : Preferred). p.settings.period) (after u ∙ ap (λ b. cond b (preferred_after change (preferred_by j u)) (preferred_by j u)) other));
+        of_pushes = pushes_calm j s e waits calm (λ is. refl) (λ ps. refl);
       }
 
   -- a mail turn switches all of a user's batch rows off, or none
@@ -605,17 +271,6 @@ module _ (j : List Stamped) where
   more_off at user = switched_off-mailed j at user ∙ ap (λ n. switched_off j + n) (dropped-switched j user)
 
   agrees_mails : (at : ℕ) (user : UserId) (e : Effect) → IsMailed e user (mail_entries j at user) (length (mail_items j user)) (switched_at j user) → Agrees j (record { at = at; event = MailTurn user }) e
-  agrees_mails at user effect.Start fits = absurd fits
-  agrees_mails at user (effect.User u bot) fits = absurd fits
-  agrees_mails at user (effect.Group group members) fits = absurd fits
-  agrees_mails at user (effect.Membership group u on) fits = absurd fits
-  agrees_mails at user (effect.Channel name) fits = absurd fits
-  agrees_mails at user (effect.Subscription ch u on) fits = absurd fits
-  agrees_mails at user (effect.Preference u change) fits = absurd fits
-  agrees_mails at user (effect.Message message owed deal) fits = absurd fits
-  agrees_mails at user (effect.Missed v ds) fits = absurd fits
-  agrees_mails at user (effect.Cleared v ds) fits = absurd fits
-  agrees_mails at user (effect.Dealt d idle live) fits = absurd fits
   agrees_mails at user (effect.Mailed mailed entries handed off) fits =
       let s : Stamped = record { at = at; event = MailTurn user } in let e = effect.Mailed mailed entries handed off in
       record {
@@ -632,13 +287,15 @@ module _ (j : List Stamped) where
           live = ap in_64_bits (none_cleared j s e (λ u k. refl));
         };
         of_batches = subst (λ (v : UserId). BatchesAgree j (record { at = at; event = MailTurn v }) e) fits.0 (batches_settled j at mailed e (λ p q ws old new made. made) (same_period j (record { at = at; event = MailTurn mailed }) e (λ u. refl)));
+        of_pushes = pushes_left j s e waits refl (λ u k online. refl) (λ is. refl) (λ ps. refl);
       }
+  agrees_mails at user e fits = absurd fits
 
   -- an absorbed outcome, with what it makes of the notices
   agrees_absorbed : (at : ℕ) (o : Outcome) (e : Effect) → ((n : ℕ) → starts_after e n ≡ n) → ((ns : List UserName) → names_after e ns ≡ ns) → ((bs : List Bool) → bots_after e bs ≡ bs) → ((ps : List Preferred) → preferences_after e ps ≡ ps)
       → ((gs : List GroupName) → groups_after e gs ≡ gs) → ((sets : List (List UserId)) → members_after e sets ≡ sets) → ((cs : List (List ℕ)) → channels_after e cs ≡ cs) → ((sets : List (List UserId)) → subscribers_after e sets ≡ sets)
-      → ((ms : List Message) → messages_after e ms ≡ ms) → ((ds : List Deal) → deals_after e ds ≡ ds) → NoticesAgree j (record { at = at; event = Absorbed o }) e → BatchesAgree j (record { at = at; event = Absorbed o }) e → Agrees j (record { at = at; event = Absorbed o }) e
-  agrees_absorbed at o e starts names bots preferences group_list members channel_list subscribers ms ds notices batches =
+      → ((ms : List Message) → messages_after e ms ≡ ms) → ((ds : List Deal) → deals_after e ds ≡ ds) → NoticesAgree j (record { at = at; event = Absorbed o }) e → BatchesAgree j (record { at = at; event = Absorbed o }) e → PushesAgree j (record { at = at; event = Absorbed o }) e → Agrees j (record { at = at; event = Absorbed o }) e
+  agrees_absorbed at o e starts names bots preferences group_list members channel_list subscribers ms ds notices batches pushes =
       let s : Stamped = record { at = at; event = Absorbed o } in
       record {
         starts = starts_left j s e refl starts;
@@ -648,34 +305,29 @@ module _ (j : List Stamped) where
         of_messages = messages_left j s e refl ms ds;
         of_notices = notices;
         of_batches = batches;
+        of_pushes = pushes;
       }
 
-  agrees_dealt : (at : ℕ) (k : DealNo) (verdicts : List UserVerdict) (e : Effect) → IsDealt e k verdicts → Agrees j (record { at = at; event = Absorbed (Dealt k verdicts) }) e
-  agrees_dealt at k verdicts effect.Start fits = absurd fits
-  agrees_dealt at k verdicts (effect.User u bot) fits = absurd fits
-  agrees_dealt at k verdicts (effect.Group group members) fits = absurd fits
-  agrees_dealt at k verdicts (effect.Membership group u on) fits = absurd fits
-  agrees_dealt at k verdicts (effect.Channel name) fits = absurd fits
-  agrees_dealt at k verdicts (effect.Subscription ch u on) fits = absurd fits
-  agrees_dealt at k verdicts (effect.Preference u change) fits = absurd fits
-  agrees_dealt at k verdicts (effect.Message message owed deal) fits = absurd fits
-  agrees_dealt at k verdicts (effect.Cleared u ds) fits = absurd fits
-  agrees_dealt at k verdicts (effect.Missed u ds) fits = absurd fits
-  agrees_dealt at k verdicts (effect.Mailed u entries handed off) fits = absurd fits
-  agrees_dealt at k verdicts (effect.Dealt d idle live) fits =
-      let s : Stamped = record { at = at; event = Absorbed (Dealt k verdicts) } in let e = effect.Dealt d idle live in
+  agrees_dealt : (at : ℕ) (k : DealNo) (verdicts : List UserVerdict) (e : Effect) → IsDealt e k verdicts (items_made j (record { at = at; event = Absorbed (Dealt k verdicts) })) → Agrees j (record { at = at; event = Absorbed (Dealt k verdicts) }) e
+  agrees_dealt at k verdicts (effect.Dealt d idle live pushes) fits =
+      let s : Stamped = record { at = at; event = Absorbed (Dealt k verdicts) } in let e = effect.Dealt d idle live pushes in
       agrees_absorbed at (Dealt k verdicts) e (λ n. refl) (λ ns. refl) (λ bs. refl) (λ ps. refl) (λ gs. refl) (λ sets. refl) (λ cs. refl) (λ sets. refl) (λ ms. refl) (λ ds. refl)
-      (notices_moved j s e (λ u. refl) (λ u k. refl) refl refl
+      (notices_moved j s e refl (no_outcome (Dealt k verdicts)) (λ u k. refl) refl refl
       (λ ws. ap (λ (q : DealNo). map (λ w. if of_deal q w then dealt_to (users_in idle) (users_in live) w else w) ws) fits.0 ∙ sym (steps_dealt at k verdicts (users_in idle) (users_in live) fits.1 fits.2 ws))
       (λ es. refl) (λ n. refl) (λ n. refl) (λ ws n. refl))
       (batches_readied j s e (λ u. refl) (same_period j s e (λ u. refl)) (λ p q ws old new made. made))
+      (pushes_readied j s e waits refl pushes.items fits.3 (λ is. refl) (λ ps. refl))
+  agrees_dealt at k verdicts e fits = absurd fits
 
-  agrees_missed : (at : ℕ) (u : UserId) (deals : List DealNo) → Agrees j (record { at = at; event = Absorbed (Missed u deals) }) (effect.Missed u deals)
-  agrees_missed at u deals =
-      let s : Stamped = record { at = at; event = Absorbed (Missed u deals) } in let e = effect.Missed u deals in
-      agrees_absorbed at (Missed u deals) e (λ n. refl) (λ ns. refl) (λ bs. refl) (λ ps. refl) (λ gs. refl) (λ sets. refl) (λ cs. refl) (λ sets. refl) (λ ms. refl) (λ ds. refl)
-      (notices_moved j s e (λ u. refl) (λ u k. refl) refl refl (λ ws. sym (steps_missed at u deals ws)) (λ es. refl) (λ n. refl) (λ n. refl) (λ ws n. refl))
+  agrees_missed : (at : ℕ) (u : UserId) (ks : List DealNo) (e : Effect) → IsMissed e u ks (items_made j (record { at = at; event = Absorbed (Missed u ks) })) → Agrees j (record { at = at; event = Absorbed (Missed u ks) }) e
+  agrees_missed at u ks (effect.Missed v ds pushes) fits =
+      let s : Stamped = record { at = at; event = Absorbed (Missed u ks) } in let e = effect.Missed v ds pushes in
+      agrees_absorbed at (Missed u ks) e (λ n. refl) (λ ns. refl) (λ bs. refl) (λ ps. refl) (λ gs. refl) (λ sets. refl) (λ cs. refl) (λ sets. refl) (λ ms. refl) (λ ds. refl)
+      (notices_moved j s e refl (no_outcome (Missed u ks)) (λ u k. refl) refl refl
+      (λ ws. (λ i. map (λ w. readied_if (is_named (fits.0 i) (fits.1 i) w) w) ws) ∙ sym (steps_missed at u ks ws)) (λ es. refl) (λ n. refl) (λ n. refl) (λ ws n. refl))
       (batches_readied j s e (λ u. refl) (same_period j s e (λ u. refl)) (λ p q ws old new made. made))
+      (pushes_readied j s e waits refl pushes.items fits.2 (λ is. refl) (λ ps. refl))
+  agrees_missed at u ks e fits = absurd fits
 
   agrees_cleared : (at : ℕ) (u : UserId) (deals : List DealNo) (q : QueueId) → Agrees j (record { at = at; event = Absorbed (Cleared u deals q) }) (effect.Cleared u deals)
   agrees_cleared at u deals q =
@@ -683,14 +335,70 @@ module _ (j : List Stamped) where
       agrees_absorbed at (Cleared u deals q) e (λ n. refl) (λ ns. refl) (λ bs. refl) (λ ps. refl) (λ gs. refl) (λ sets. refl) (λ cs. refl) (λ sets. refl) (λ ms. refl) (λ ds. refl) (record {
         wait = all_moved j s e refl ∙ steps_cleared at u deals q (all_kept j);
         entries = outbox-append j s ∙ append-nil (outbox j);
-        handed = ap in_64_bits (none_handed j s e refl);
-        off = ap in_64_bits (none_off j s e (λ v. refl) refl);
+        handed = ap in_64_bits (none_handed j s e refl refl);
+        off = ap in_64_bits (none_off j s e refl (no_outcome (Cleared u deals q)) refl);
         live = ap in_64_bits (cleared_live-append j s ∙ ap (λ n. cleared_live j + n) (cleared_so j at u deals q)) ∙ sym (added (cleared_live j) (length (filter (is_cleared u deals) (all_kept j))));
-      }) (batches_left j s e (λ v. refl) none_ready (same_period j s e (λ v. refl)) (λ p q' ws old new made. made))
+      }) (batches_left j s e (λ v. refl) none_ready (same_period j s e (λ v. refl)) (λ p q' ws old new made. made)) (pushes_left j s e waits refl none_ready (λ is. refl) (λ ps. refl))
     where
       none_ready : (v : UserId) (k : DealNo) (online : Bool) → readies v k online (Absorbed (Cleared u deals q)) ≡ false
       none_ready v k true = refl
       none_ready v k false = refl
+
+  -- ---- a push turn
+
+  -- one more is counted where the turn hands over, or where it doesn't
+  counted_handed : (u : UserId) (m : MessageId) (entry : Option Entry) (on : Bool) → IsHanded on entry → (n : ℕ) → in_64_bits (n + cond on 1 0) ≡ handed_after (effect.Pushed u m entry) (in_64_bits n)
+  counted_handed u m (Some e) on is n = ap (λ b. in_64_bits (n + cond b 1 0)) is ∙ sym (added n 1)
+  counted_handed u m None on is n = ap (λ b. in_64_bits (n + cond b 1 0)) is ∙ ap in_64_bits (add-zero n)
+
+  counted_off : (u : UserId) (m : MessageId) (entry : Option Entry) (on : Bool) → IsHanded on entry → (n : ℕ) → in_64_bits (n + cond on 0 1) ≡ off_after (effect.Pushed u m entry) (in_64_bits n)
+  counted_off u m (Some e) on is n = ap (λ b. in_64_bits (n + cond b 0 1)) is ∙ ap in_64_bits (add-zero n)
+  counted_off u m None on is n = ap (λ b. in_64_bits (n + cond b 0 1)) is ∙ sym (added n 1)
+
+  -- the push joins the active ones where it is handed over
+  joined : (u : UserId) (m : MessageId) (entry : Option Entry) (on : Bool) → IsHanded on entry → (ps : List PushKey) (v : UserId) (k : MessageId) → has_push (active_after (effect.Pushed u m entry) ps) v k ≡ (has_push ps v k || ((u.0 == v.0 && m.0 == k.0) && on))
+  joined u m None on is ps v k = sym (ap (λ b. has_push ps v k || ((u.0 == v.0 && m.0 == k.0) && b)) is ∙ (ap (λ b. has_push ps v k || b) (and-false (u.0 == v.0 && m.0 == k.0)) ∙ or-false (has_push ps v k)))
+  joined u m (Some e) on is ps v k = one_more ps ∙ sym (ap (λ b. has_push ps v k || ((u.0 == v.0 && m.0 == k.0) && b)) is)
+    where
+      one_more : (qs : List PushKey) → has_push (qs ++ record { user = u; message = m } ∷ []) v k ≡ (has_push qs v k || ((u.0 == v.0 && m.0 == k.0) && true))
+      one_more [] = or-false (u.0 == v.0 && m.0 == k.0) ∙ sym (and-true (u.0 == v.0 && m.0 == k.0))
+      one_more (q ∷ qs) = ap (λ b. (q.user.0 == v.0 && q.message.0 == k.0) || b) (one_more qs) ∙ grouped (q.user.0 == v.0 && q.message.0 == k.0) (has_push qs v k) ((u.0 == v.0 && m.0 == k.0) && true)
+        where
+          grouped : (a b c : Bool) → (a || (b || c)) ≡ ((a || b) || c)
+          grouped true b c = refl
+          grouped false b c = refl
+
+  turn_agrees : (at : ℕ) (u : UserId) (m : MessageId) (entry : Option Entry) → may_stand j at (PushTurn (item.Notify u m)) ≡ true → option_to_list entry ≡ push_entries j at (item.Notify u m) → Agrees j (push_turn at u m) (effect.Pushed u m entry)
+  turn_agrees at u m entry may fits =
+      let s = push_turn at u m in let e = effect.Pushed u m entry in let on = switch_on j u Push in
+      let ready : account j u m Push ≡ Ready = turned-ready j at u m waits may in
+      let notice = ready_push j u m ready in
+      let handed : IsHanded on entry = handed_so on (push_entry j at notice.0) entry (fits ∙ push_entries-ready j at u m notice.0 notice.1) in
+      record {
+        starts = starts_left j s e refl (λ n. refl);
+        of_users = users_left j s e refl (λ u. refl) (λ u c. refl) (λ u c topic. refl) (λ u v. refl) (λ ns. refl) (λ bs. refl) (λ ps. refl);
+        of_groups = groups_left j s e refl (λ g u. refl) (still_sets j s e refl) (λ gs. refl) (λ sets. refl);
+        of_channels = channels_left j s e refl (λ u c. refl) (still_sets j s e refl) (λ cs. refl) (λ sets. refl);
+        of_messages = messages_left j s e refl (λ ms. refl) (λ ds. refl);
+        of_notices = record {
+          wait = all_moved j s e refl ∙ steps_push at u m (all_kept j);
+          entries = outbox-append j s ∙ ap (λ es. outbox j ++ es) (sym fits);
+          handed = ap in_64_bits (handed_over-pushed j at u m ready) ∙ counted_handed u m entry on handed (handed_over j);
+          off = ap in_64_bits (switched_off-pushed j at u m ready) ∙ counted_off u m entry on handed (switched_off j);
+          live = ap in_64_bits (none_cleared j s e (λ u k. refl));
+        };
+        of_batches = batches_left j s e (λ v. refl) (λ v k online. refl) (same_period j s e (λ v. refl)) (λ p q ws old new made. made);
+        of_pushes = record {
+          items = waiting_items-next j s waits may ∙ (ap (λ is. drop 1 (waiting_items j) ++ is) (none_added j s e waits (λ v k online. refl)) ∙ append-nil (drop 1 (waiting_items j)));
+          active = λ ps so v k. joined u m entry on handed ps v k ∙ (ap (λ b. b || ((u.0 == v.0 && m.0 == k.0) && on)) (so v k) ∙ sym (is_handed-pushed j at u m ready v k));
+        };
+      }
+
+  agrees_push : (at : ℕ) (u : UserId) (m : MessageId) (e : Effect) → may_stand j at (PushTurn (item.Notify u m)) ≡ true → IsPushed e u m (push_entries j at (item.Notify u m)) → Agrees j (push_turn at u m) e
+  agrees_push at u m (effect.Pushed v k entry) may fits =
+      subst (λ (x : UserId). Agrees j (push_turn at u m) (effect.Pushed x k entry)) (sym fits.0)
+      (subst (λ (x : MessageId). Agrees j (push_turn at u m) (effect.Pushed u x entry)) (sym fits.1) (turn_agrees at u m entry may fits.2))
+  agrees_push at u m e may fits = absurd fits
 
   -- what a request that may stand tells
 
@@ -716,7 +424,7 @@ module _ (j : List Stamped) where
 
   -- an effect that fits an event that may stand makes of the tables what the event makes of them
   agrees : (at : ℕ) (event : Event) (e : Effect) → may_stand j at event ≡ true → IsEffectOf j at event e → Agrees j (record { at = at; event = event }) e
-  agrees at Restart e may fits = subst (Agrees j (record { at = at; event = Restart })) (sym fits) (agrees_restart at)
+  agrees at Restart e may fits = agrees_start at e fits
   agrees at (Asked (AddUser name bot)) e may fits = subst (Agrees j (record { at = at; event = Asked (AddUser name bot) })) (sym fits) (agrees_user at name bot)
   agrees at (Asked (AddGroup name members)) e may fits =
       let r = AddGroup name members in
@@ -749,12 +457,14 @@ module _ (j : List Stamped) where
   agrees at (Asked (Direct sender to text)) e may fits = agrees_send at sender (destination.Direct to) text e fits
   agrees at (Absorbed (Dealt k verdicts)) e may fits = agrees_dealt at k verdicts e fits
   agrees at (Absorbed (Cleared user deals queue)) e may fits = subst (Agrees j (record { at = at; event = Absorbed (Cleared user deals queue) })) (sym fits) (agrees_cleared at user deals queue)
-  agrees at (Absorbed (Missed user deals)) e may fits = subst (Agrees j (record { at = at; event = Absorbed (Missed user deals) })) (sym fits) (agrees_missed at user deals)
+  agrees at (Absorbed (Missed user deals)) e may fits = agrees_missed at user deals e fits
   agrees at (MailTurn user) e may fits = agrees_mails at user e fits
+  agrees at (PushTurn (item.Notify user message)) e may fits = agrees_push at user message e may fits
+  agrees at (PushTurn (item.Remove user messages)) e may fits = absurd fits
 
 -- the tables hold what the events leave with a lawful one
-pub holds_after : (old new : Tables) (past : List Stamped) → Holds old past → (s : Stamped) → is_lawful_after past s ≡ true → (e : Effect) → IsEffectOf past s.at s.event e → IsApplied old new s.at e → new.last ≡ s.at → Holds new (past ++ s ∷ [])
-holds_after old new past holds s next e fits applied last = agreed old new past holds s e (agrees past s.at s.event e (second (nat_le (last_stamp past) s.at) (may_stand past s.at s.event) next) fits) applied last
+pub holds_after : (old new : Tables) (past : List Stamped) → PushesWait past → Holds old past → (s : Stamped) → is_lawful_after past s ≡ true → (e : Effect) → IsEffectOf past s.at s.event e → IsApplied old new s.at e → new.last ≡ s.at → Holds new (past ++ s ∷ [])
+holds_after old new past waits holds s next e fits applied last = agreed old new past holds s e (agrees past waits s.at s.event e (second (nat_le (last_stamp past) s.at) (may_stand past s.at s.event) next) fits) applied last
   where
     second : (a b : Bool) → (a && b) ≡ true → b ≡ true
     second true b h = h
@@ -774,6 +484,8 @@ applied_at old new at e applied = record {
   messages = applied.messages;
   waiting = applied.waiting;
   batches = applied.batches;
+  items = applied.items;
+  active = applied.active;
   deals = applied.deals;
   outbox = applied.outbox;
   handed = applied.handed;

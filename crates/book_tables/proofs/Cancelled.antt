@@ -25,7 +25,7 @@ use Rattle.book_tables.specs.Applied.{is_cleared}
 use Rattle.book_tables.specs.Notices.{is_ready_stage, is_named}
 use Rattle.book_tables.specs.Tables.{stage_by, notice_kept}
 use Rattle.book_tables.proofs.Kept.{filter-kept}
-use Rattle.book_tables.proofs.Moves.{swapped, never_turn}
+use Rattle.book_tables.proofs.Moves.{swapped, never_turn, no_outcome}
 use Rattle.book_tables.proofs.RowsAfter.{all_kept}
 
 -- an event that clears nothing clears none of the pending notices
@@ -82,4 +82,4 @@ cleared_so j at u deals q =
     one n pending =
         let s : Stamped = record { at = at; event = Absorbed (Cleared u deals q) } in
         by n (is_named u deals (notice_kept j n)) (turn j n) (ready j n) (was_cleared j n) (was_dealt j n) (ap is_pending (sym (account_of-plain j n)) ∙ pending)
-        ∙ (λ i. same_account (moved_by (sym (never_turn s (λ v. refl) n.user n.way) i) (sym (none_ready (pushes_online n) n) i) (swapped n.user.0 u.0 i && has_deal deals n.deal) false (decided n (occurrence j s)) (sym (account_of-plain j n) i)) LiveQueue)
+        ∙ (λ i. same_account (moved_by (sym (never_turn s.event (no_outcome (Cleared u deals q)) n.user n.number n.way) i) (sym (none_ready (pushes_online n) n) i) (swapped n.user.0 u.0 i && has_deal deals n.deal) false (decided n (occurrence j s)) (sym (account_of-plain j n) i)) LiveQueue)

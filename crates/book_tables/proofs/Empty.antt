@@ -1,8 +1,9 @@
 -- The tables of the empty journal.
 use Rattle.std.proofs.Common.{◌≡◌, ℕ, zero, suc, ◌+◌, false, List, [], length, map, refl, sym, ap, ◌∙◌, subst}
-use Rattle.std.specs.Prelude.{IsPermutation, count_by, option_map, filter}
+use Rattle.std.specs.Prelude.{IsPermutation, count_by, find, option_map, filter}
+use Rattle.std.specs.Option.{option_map_or}
 use Rattle.chat_model.specs.declared.row.Cause.TheVariants.{SwitchedOff}
-use Rattle.notice_ledger.specs.declared.accounts.Account.TheVariants.{Handed, Cancelled, LiveQueue}
+use Rattle.notice_ledger.specs.declared.accounts.Account.TheVariants.{NotOwed, Handed, Cancelled, LiveQueue}
 use Rattle.std.specs.List.{filter_map, reduce}
 use Rattle.std.specs.FinMap as finite
 use Rattle.std.proofs.lemmas.List.Sorted.{IsPermutation-refl}
@@ -10,15 +11,19 @@ use Rattle.chat_model.specs.declared.ids.MessageId.{MessageId}
 use Rattle.chat_model.specs.declared.ids.UserId.{UserId}
 use Rattle.notice_ledger.specs.Past.Journal.{Occurrence}
 use Rattle.notice_ledger.specs.Past.Values.{settings, Person, people, named_from, groups, named_groups_from, channels}
-use Rattle.notice_ledger.specs.Past.Owed.{Notice, ready, account_of}
+use Rattle.notice_ledger.specs.Past.Owed.{Notice, is_of, is_handed, ready, account_of}
+use Rattle.chat_model.specs.declared.trigger.Way.TheVariants.{Push}
 use Rattle.notice_ledger.specs.Past.Runs.{start_count}
 use Rattle.notice_ledger.specs.Past.Due.{is_batch_row, batch_rows, earlier}
 use Rattle.notice_ledger.specs.Past.Audit.{in_64_bits, owed_with, same_account}
 use Rattle.notice_ledger.proofs.Audited.{handed_over, switched_off, cleared_live}
 use Rattle.notice_ledger.proofs.Appended.{notices-nil, people-nil, groups-nil, is_member-nil, channels-nil, messages-nil, subscribed-nil, outbox-nil}
+use Rattle.notice_ledger.proofs.PushItems.{waiting_items-nil}
 use Rattle.notice_ledger.proofs.Waiting.{waiting-nil}
 use Rattle.notice_ledger.proofs.DealLemmas.{deals-nil, start_count-nil}
+use Rattle.book_tables.specs.declared.pushes.PushKey.{PushKey}
 use Rattle.book_tables.specs.declared.tables.Tables.{Tables}
+use Rattle.book_tables.specs.Pushes.{has_push}
 use Rattle.book_tables.specs.UserSets.{users_in, has_in}
 use Rattle.book_tables.specs.Preferences.{default_preferred, preferred_in}
 use Rattle.mail_batches.specs.Batches.{Waiting as Batches}
@@ -52,8 +57,8 @@ no_start : 0 ≡ in_64_bits (start_count [])
 no_start = ap in_64_bits (sym start_count-nil)
 
 -- the tables of the empty journal
-pub empty_stands : (t : Tables) → t.last ≡ 0 → t.starts ≡ 0 → t.names.items ≡ [] → t.bots.items ≡ [] → t.groups.items ≡ [] → t.members.items ≡ [] → t.channels.items ≡ [] → t.subscribers.items ≡ [] → t.messages.items ≡ [] → t.waiting.items ≡ [] → t.batches ≡ record { batches = finite.empty; spare = 0 } → t.deals.items ≡ [] → t.outbox.items ≡ [] → t.preferences.items ≡ [] → t.handed ≡ 0 → t.off ≡ 0 → t.live ≡ 0 → Holds t []
-empty_stands t last starts names bots group_list members channel_list subscribers ms ws bs ds es ps handed off live = record {
+pub empty_stands : (t : Tables) → t.last ≡ 0 → t.starts ≡ 0 → t.names.items ≡ [] → t.bots.items ≡ [] → t.groups.items ≡ [] → t.members.items ≡ [] → t.channels.items ≡ [] → t.subscribers.items ≡ [] → t.messages.items ≡ [] → t.waiting.items ≡ [] → t.batches ≡ record { batches = finite.empty; spare = 0 } → t.pushes.items ≡ [] → t.active.items ≡ [] → t.deals.items ≡ [] → t.outbox.items ≡ [] → t.preferences.items ≡ [] → t.handed ≡ 0 → t.off ≡ 0 → t.live ≡ 0 → Holds t []
+empty_stands t last starts names bots group_list members channel_list subscribers ms ws bs is active ds es ps handed off live = record {
   last = last;
   starts = starts ∙ no_start;
   names = names ∙ ap (named_from 1) (sym people-nil);
@@ -69,6 +74,8 @@ empty_stands t last starts names bots group_list members channel_list subscriber
   messages = ms ∙ ap (map message_kept) (sym messages-nil);
   waiting = ws ∙ ap (map (notice_kept [])) (sym waiting-nil);
   batches = subst (λ (b : Batches). HoldBatches b []) (sym bs) no_batches;
+  items = is ∙ sym waiting_items-nil;
+  active = λ u m. ap (λ (ks : List PushKey). has_push ks u m) active ∙ sym (ap (λ (ns : List Notice). is_handed (option_map_or (account_of []) (find (is_of u m Push) ns) NotOwed)) notices-nil);
   deals = ds ∙ sym deals-nil;
   outbox = es ∙ sym outbox-nil;
   handed = handed ∙ nothing_handed;

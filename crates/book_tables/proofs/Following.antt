@@ -30,6 +30,7 @@ use Rattle.notice_ledger.specs.Past.Values.{numbered, Person, person, people, se
 use Rattle.notice_ledger.specs.Past.Triggers.{is_recipient, is_direct, is_participant_of, mentions_of, came_by, facts_of, trigger}
 use Rattle.notice_ledger.specs.Past.Owed.{Notice, same_way, waiting, notice_of, owed_of, owed_by, account_of, is_pending}
 use Rattle.notice_ledger.specs.Past.Due.{batch_rows}
+use Rattle.notice_ledger.specs.Past.Pushes.{is_push_turn}
 use Rattle.notice_ledger.specs.Past.Outbox.{outbox, mail_entries}
 use Rattle.notice_ledger.specs.Past.Rows.{outbox_rows_from, rows}
 use Rattle.notice_ledger.proofs.Appended.{outbox-append}
@@ -43,7 +44,8 @@ use Rattle.book_tables.specs.declared.tables.Tables.{Tables}
 use Rattle.chat_model.specs.declared.row.Stage.TheVariants.{Flight}
 use Rattle.book_tables.specs.Notices.{is_undecided, is_undecided_of, is_ready_mail_to, named_by, readied, dealt_to}
 use Rattle.book_tables.proofs.NewRows.{changes_with}
-use Rattle.book_tables.proofs.RowsAfter.{all_kept, MakesPending, rows-append}
+use Rattle.book_tables.proofs.Moves.{no_request}
+use Rattle.book_tables.proofs.RowsAfter.{all_kept, MakesPending, MakesActive, active_left, rows-append}
 use Rattle.book_tables.proofs.RowSteps.{makes_left, makes_start, makes_taken, makes_dealt, makes_cleared, makes_missed}
 use Rattle.chat_model.specs.declared.deal.Outcome.TheVariants.{Dealt, Cleared, Missed}
 use Rattle.chat_model.specs.declared.deal.QueueId.{QueueId}
@@ -215,36 +217,41 @@ module _ (t : Tables) (past : List Stamped) (holds : Holds t past) where
 
   -- ---- the changes of the rows
 
-  -- where changes are those of the event's own rows, with changes of pending rows, they make the rows with the event
-  made : (s : Stamped) (pending : List RowChange) → MakesPending past s pending → (cs : List RowChange) → cs ≡ changes_with past s pending → changed_all cs (rows past) ≡ rows (past ++ s ∷ [])
-  made s pending makes cs are = ap (λ xs. changed_all xs (rows past)) are ∙ rows-append past s pending makes
+  -- where changes are those of the event's own rows, with changes of pending rows and of active pushes', they make the rows
+  -- with the event
+  pub made_with : (s : Stamped) (pending active : List RowChange) → MakesPending past s pending → MakesActive past s active → (cs : List RowChange) → cs ≡ changes_with past s pending active → changed_all cs (rows past) ≡ rows (past ++ s ∷ [])
+  made_with s pending active makes makes_active cs are = ap (λ xs. changed_all xs (rows past)) are ∙ rows-append past s pending active makes makes_active
+
+  -- an event that is no push turn changes no row of an active push
+  made : (s : Stamped) → is_push_turn s.event ≡ false → (pending : List RowChange) → MakesPending past s pending → (cs : List RowChange) → cs ≡ changes_with past s pending [] → changed_all cs (rows past) ≡ rows (past ++ s ∷ [])
+  made s other pending makes cs are = made_with s pending [] makes (active_left past s other) cs are
 
   -- a request that sends nothing changes no pending row
   nothing_pending : (at : ℕ) (r : Request) → owed_by (occurrence past (record { at = at; event = Asked r })) ≡ [] → MakesPending past (record { at = at; event = Asked r }) []
   nothing_pending at r none =
       let s : Stamped = record { at = at; event = Asked r } in
-      subst (λ (ns : List Notice). MakesPending past s (map (λ w. Put (notice_row w)) (map in_flight ns))) none (makes_left past s (λ u. refl) (λ u k online. refl) (λ u k. refl) (λ k. refl))
+      subst (λ (ns : List Notice). MakesPending past s (map (λ w. Put (notice_row w)) (map in_flight ns))) none (makes_left past s (no_request r) (λ u k online. refl) (λ u k. refl) (λ k. refl))
 
   pub no-changes_group : (at : ℕ) (name : List ℕ) (members : List UserId) → changed_all [] (rows past) ≡ rows (past ++ record { at = at; event = Asked (AddGroup name members) } ∷ [])
-  no-changes_group at name members = made (record { at = at; event = Asked (AddGroup name members) }) [] (nothing_pending at (AddGroup name members) refl) [] refl
+  no-changes_group at name members = made (record { at = at; event = Asked (AddGroup name members) }) refl [] (nothing_pending at (AddGroup name members) refl) [] refl
 
   pub no-changes_member : (at : ℕ) (group : GroupId) (user : UserId) (on : Bool) → changed_all [] (rows past) ≡ rows (past ++ record { at = at; event = Asked (Member group user on) } ∷ [])
-  no-changes_member at group user on = made (record { at = at; event = Asked (Member group user on) }) [] (nothing_pending at (Member group user on) refl) [] refl
+  no-changes_member at group user on = made (record { at = at; event = Asked (Member group user on) }) refl [] (nothing_pending at (Member group user on) refl) [] refl
 
   pub no-changes_channel : (at : ℕ) (name : List ℕ) → changed_all [] (rows past) ≡ rows (past ++ record { at = at; event = Asked (AddChannel name) } ∷ [])
-  no-changes_channel at name = made (record { at = at; event = Asked (AddChannel name) }) [] (nothing_pending at (AddChannel name) refl) [] refl
+  no-changes_channel at name = made (record { at = at; event = Asked (AddChannel name) }) refl [] (nothing_pending at (AddChannel name) refl) [] refl
 
   pub no-changes_subscription : (at : ℕ) (user : UserId) (channel : ChannelId) (on : Bool) → changed_all [] (rows past) ≡ rows (past ++ record { at = at; event = Asked (Subscribe user channel on) } ∷ [])
-  no-changes_subscription at user channel on = made (record { at = at; event = Asked (Subscribe user channel on) }) [] (nothing_pending at (Subscribe user channel on) refl) [] refl
+  no-changes_subscription at user channel on = made (record { at = at; event = Asked (Subscribe user channel on) }) refl [] (nothing_pending at (Subscribe user channel on) refl) [] refl
 
   pub no-changes_specific : (at : ℕ) (user : UserId) (channel : ChannelId) (change : SpecificChange) → changed_all [] (rows past) ≡ rows (past ++ record { at = at; event = Asked (SetChannel user channel change) } ∷ [])
-  no-changes_specific at user channel change = made (record { at = at; event = Asked (SetChannel user channel change) }) [] (nothing_pending at (SetChannel user channel change) refl) [] refl
+  no-changes_specific at user channel change = made (record { at = at; event = Asked (SetChannel user channel change) }) refl [] (nothing_pending at (SetChannel user channel change) refl) [] refl
 
   pub no-changes_policy : (at : ℕ) (user : UserId) (channel : ChannelId) (topic : List ℕ) (policy : Policy) → changed_all [] (rows past) ≡ rows (past ++ record { at = at; event = Asked (SetPolicy user channel topic policy) } ∷ [])
-  no-changes_policy at user channel topic policy = made (record { at = at; event = Asked (SetPolicy user channel topic policy) }) [] (nothing_pending at (SetPolicy user channel topic policy) refl) [] refl
+  no-changes_policy at user channel topic policy = made (record { at = at; event = Asked (SetPolicy user channel topic policy) }) refl [] (nothing_pending at (SetPolicy user channel topic policy) refl) [] refl
 
   pub no-changes_mute : (at : ℕ) (user other : UserId) (on : Bool) → changed_all [] (rows past) ≡ rows (past ++ record { at = at; event = Asked (Mute user other on) } ∷ [])
-  no-changes_mute at user other on = made (record { at = at; event = Asked (Mute user other on) }) [] (nothing_pending at (Mute user other on) refl) [] refl
+  no-changes_mute at user other on = made (record { at = at; event = Asked (Mute user other on) }) refl [] (nothing_pending at (Mute user other on) refl) [] refl
 
   -- ---- starts and absorbed outcomes
 
@@ -253,26 +260,26 @@ module _ (t : Tables) (past : List Stamped) (holds : Holds t past) where
 
   pub changes-start : (at : ℕ) → changed_all (puts_where is_undecided readied t.waiting.items) (rows past) ≡ rows (past ++ record { at = at; event = Restart } ∷ [])
   changes-start at =
-      made (record { at = at; event = Restart }) (puts_where is_undecided readied (all_kept past)) (makes_start past at) (puts_where is_undecided readied t.waiting.items)
+      made (record { at = at; event = Restart }) refl (puts_where is_undecided readied (all_kept past)) (makes_start past at) (puts_where is_undecided readied t.waiting.items)
       (kept_there (puts_where is_undecided readied) ∙ sym (append-nil (puts_where is_undecided readied (all_kept past))))
 
   pub changes-dealt : (at : ℕ) (k : DealNo) (verdicts : List UserVerdict) (idle live : List UserId) → ((u : UserId) → is_one_of idle u ≡ gives_idle verdicts u) → ((u : UserId) → is_one_of live u ≡ gives_live verdicts u)
       → changed_all (puts_where (is_undecided_of k) (dealt_to idle live) t.waiting.items) (rows past) ≡ rows (past ++ record { at = at; event = Absorbed (Dealt k verdicts) } ∷ [])
   changes-dealt at k verdicts idle live are_idle are_live =
-      made (record { at = at; event = Absorbed (Dealt k verdicts) }) (puts_where (is_undecided_of k) (dealt_to idle live) (all_kept past)) (makes_dealt past at k verdicts idle live are_idle are_live) (puts_where (is_undecided_of k) (dealt_to idle live) t.waiting.items)
+      made (record { at = at; event = Absorbed (Dealt k verdicts) }) refl (puts_where (is_undecided_of k) (dealt_to idle live) (all_kept past)) (makes_dealt past at k verdicts idle live are_idle are_live) (puts_where (is_undecided_of k) (dealt_to idle live) t.waiting.items)
       (kept_there (puts_where (is_undecided_of k) (dealt_to idle live)) ∙ sym (append-nil (puts_where (is_undecided_of k) (dealt_to idle live) (all_kept past))))
 
   pub changes-cleared : (at : ℕ) (u : UserId) (deals : List DealNo) (q : QueueId)
       → changed_all (flat_map (λ test. removes_where test t.waiting.items) (named_by u deals)) (rows past) ≡ rows (past ++ record { at = at; event = Absorbed (Cleared u deals q) } ∷ [])
   changes-cleared at u deals q =
       let f = λ (ws : List Waiting). flat_map (λ test. removes_where test ws) (named_by u deals) in
-      made (record { at = at; event = Absorbed (Cleared u deals q) }) (f (all_kept past)) (makes_cleared past at u deals q) (f t.waiting.items) (kept_there f ∙ sym (append-nil (f (all_kept past))))
+      made (record { at = at; event = Absorbed (Cleared u deals q) }) refl (f (all_kept past)) (makes_cleared past at u deals q) (f t.waiting.items) (kept_there f ∙ sym (append-nil (f (all_kept past))))
 
   pub changes-missed : (at : ℕ) (u : UserId) (deals : List DealNo)
       → changed_all (flat_map (λ test. puts_where test readied t.waiting.items) (named_by u deals)) (rows past) ≡ rows (past ++ record { at = at; event = Absorbed (Missed u deals) } ∷ [])
   changes-missed at u deals =
       let f = λ (ws : List Waiting). flat_map (λ test. puts_where test readied ws) (named_by u deals) in
-      made (record { at = at; event = Absorbed (Missed u deals) }) (f (all_kept past)) (makes_missed past at u deals) (f t.waiting.items) (kept_there f ∙ sym (append-nil (f (all_kept past))))
+      made (record { at = at; event = Absorbed (Missed u deals) }) refl (f (all_kept past)) (makes_missed past at u deals) (f t.waiting.items) (kept_there f ∙ sym (append-nil (f (all_kept past))))
 
   -- a user who isn't there has set nothing
   new_settings : settings past (record { 0 = length (people past) + 1 }) ≡ default_settings
@@ -283,7 +290,7 @@ module _ (t : Tables) (past : List Stamped) (holds : Holds t past) where
 
   pub changes-user : (at : ℕ) (name : List ℕ) (bot : Bool) (n : ℕ) → n ≡ length t.names.items → changed_all (Put (row.User (record { 0 = n + 1 }) name bot default_settings) ∷ []) (rows past) ≡ rows (past ++ record { at = at; event = Asked (AddUser name bot) } ∷ [])
   changes-user at name bot n many =
-      made (record { at = at; event = Asked (AddUser name bot) }) [] (nothing_pending at (AddUser name bot) refl) (Put (row.User (record { 0 = n + 1 }) name bot default_settings) ∷ [])
+      made (record { at = at; event = Asked (AddUser name bot) }) refl [] (nothing_pending at (AddUser name bot) refl) (Put (row.User (record { 0 = n + 1 }) name bot default_settings) ∷ [])
       (ap (λ n. Put (row.User (record { 0 = n + 1 }) name bot default_settings) ∷ []) (many ∙ names_long t past holds)
       ∙ ap (λ s. Put (row.User (record { 0 = length (people past) + 1 }) name bot s) ∷ []) (sym new_settings))
 
@@ -292,7 +299,7 @@ module _ (t : Tables) (past : List Stamped) (holds : Holds t past) where
       → changed_all (map Put (option_to_list (option_map (λ (p : Person). row.User user p.name p.bot (changed_settings change (settings past user))) (person past user)))) (rows past) ≡ rows (past ++ record { at = at; event = Asked (Set user change) } ∷ [])
   changes-setting at user change =
       let puts = map Put (option_to_list (option_map (λ (p : Person). row.User user p.name p.bot (changed_settings change (settings past user))) (person past user))) in
-      made (record { at = at; event = Asked (Set user change) }) [] (nothing_pending at (Set user change) refl) puts (sym (append-nil puts))
+      made (record { at = at; event = Asked (Set user change) }) refl [] (nothing_pending at (Set user change) refl) puts (sym (append-nil puts))
 
   pub changes-send : (at : ℕ) (k : Message) (n : ℕ) (ws : List Waiting) → n ≡ length t.messages.items → ws ≡ map in_flight (owed_by (occurrence past (send_of at k)))
       → changed_all (Put (row.Message (record { 0 = n + 1 }) k.sender k.text false) ∷ map (λ w. Put (notice_row w)) ws) (rows past) ≡ rows (past ++ send_of at k ∷ [])
@@ -307,19 +314,19 @@ module _ (t : Tables) (past : List Stamped) (holds : Holds t past) where
       by (destination.Channel channel topic) sender text =
           let s : Stamped = record { at = at; event = Asked (Send sender channel topic text) } in
           let new = map (λ w. Put (notice_row w)) (map in_flight (owed_by (occurrence past s))) in
-          made s new (makes_left past s (λ u. refl) (λ u k online. refl) (λ u k. refl) (λ k. refl)) (Put (row.Message (record { 0 = length (messages past) + 1 }) sender text false) ∷ new)
+          made s refl new (makes_left past s (no_request (Send sender channel topic text)) (λ u k online. refl) (λ u k. refl) (λ k. refl)) (Put (row.Message (record { 0 = length (messages past) + 1 }) sender text false) ∷ new)
           (ap (λ cs. Put (row.Message (record { 0 = length (messages past) + 1 }) sender text false) ∷ cs) (sym (append-nil new)))
       by (destination.Direct to) sender text =
           let s : Stamped = record { at = at; event = Asked (Direct sender to text) } in
           let new = map (λ w. Put (notice_row w)) (map in_flight (owed_by (occurrence past s))) in
-          made s new (makes_left past s (λ u. refl) (λ u k online. refl) (λ u k. refl) (λ k. refl)) (Put (row.Message (record { 0 = length (messages past) + 1 }) sender text false) ∷ new)
+          made s refl new (makes_left past s (no_request (Direct sender to text)) (λ u k online. refl) (λ u k. refl) (λ k. refl)) (Put (row.Message (record { 0 = length (messages past) + 1 }) sender text false) ∷ new)
           (ap (λ cs. Put (row.Message (record { 0 = length (messages past) + 1 }) sender text false) ∷ cs) (sym (append-nil new)))
 
   pub changes-mails : (at : ℕ) (user : UserId) (n : ℕ) (es : List Entry) → n ≡ length t.outbox.items → es ≡ mail_entries past at user
       → changed_all (map (removed_mail user) (rows_of t.batches user) ++ map Put (outbox_rows_from (n + 1) es)) (rows past) ≡ rows (past ++ record { at = at; event = MailTurn user } ∷ [])
   changes-mails at user n es many are =
       let gone = map (removed_mail user) (rows_of t.batches user) in
-      made (record { at = at; event = MailTurn user }) gone
+      made (record { at = at; event = MailTurn user }) refl gone
       (makes_taken past at user (rows_of t.batches user) (subst (λ (ms : List MessageId). IsPermutation ms (rows_of t.batches user)) (sym (messages-kept user past)) (holds.batches.rows user)))
       (gone ++ map Put (outbox_rows_from (n + 1) es))
       (ap (λ n. gone ++ map Put (outbox_rows_from (n + 1) es)) (many ∙ ap length holds.outbox)

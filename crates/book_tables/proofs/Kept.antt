@@ -21,7 +21,7 @@ use Rattle.notice_ledger.proofs.Batches.{is_ready_mail_of, batch_rows-waiting}
 use Rattle.notice_ledger.proofs.Standing.{account_of-plain}
 use Rattle.notice_ledger.proofs.Waiting.{waiting-pending}
 use Rattle.book_tables.specs.declared.tables.Waiting.{Waiting}
-use Rattle.book_tables.specs.Notices.{rank, is_ready_stage, is_ready_mail_to, same_stage, is_at_stage}
+use Rattle.book_tables.specs.Notices.{rank, is_ready, is_ready_stage, is_ready_mail_to, same_stage, is_at_stage}
 use Rattle.book_tables.specs.Batched.{messages_to}
 use Rattle.book_tables.specs.Tables.{stage_by, notice_kept}
 
@@ -60,13 +60,17 @@ ready-stage stage.Flight = refl
 ready-stage stage.Held = refl
 ready-stage stage.Ready = refl
 
+-- it is ready where its account is
+pub ready-kept : (j : List Stamped) (n : Notice) → is_pending (account_of j n) ≡ true → is_ready (notice_kept j n) ≡ same_account (account_of j n) account.Ready
+ready-kept j n h = ready-stage (stage_by (was_dealt j n) (is_some (ready j n))) ∙ stage-kept stage.Ready j n h
+
 mail_way : (way : Way) → (rank way == 0) ≡ same_way way Mail
 mail_way Mail = refl
 mail_way Push = refl
 
 pub mail-kept : (u : UserId) (j : List Stamped) (n : Notice) → is_pending (account_of j n) ≡ true → is_ready_mail_to u (notice_kept j n) ≡ is_ready_mail_of j u n
 mail-kept u j n h =
-    (λ i. (n.user.0 == u.0 && mail_way n.way i) && (ready-stage (stage_by (was_dealt j n) (is_some (ready j n))) ∙ stage-kept stage.Ready j n h) i)
+    (λ i. (n.user.0 == u.0 && mail_way n.way i) && ready-kept j n h i)
 
 pub filter-kept : (p : Waiting → Bool) (q : Notice → Bool) (j : List Stamped) → ((n : Notice) → is_pending (account_of j n) ≡ true → p (notice_kept j n) ≡ q n) → (ns : List Notice) → AllByRecursion (λ n. is_pending (account_of j n) ≡ true) ns → filter p (map (notice_kept j) ns) ≡ map (notice_kept j) (filter q ns)
 filter-kept p q j same [] all = refl

@@ -2,6 +2,7 @@ pub mod Steps
 pub mod Numbered
 pub mod Permuted
 pub mod Sought
+pub mod PushOrder
 pub mod Ordered
 pub mod Moves
 pub mod Kept
@@ -10,7 +11,10 @@ pub mod Readied
 pub mod NewRows
 pub mod UserRows
 pub mod RowMoves
+pub mod ActivePushes
 pub mod RowsAfter
+pub mod ReadyPushes
+pub mod PushTurned
 pub mod RowSteps
 pub mod Cancelled
 pub mod UserSets
@@ -21,6 +25,7 @@ pub mod SetPlaces
 pub mod Following
 pub mod BatchesAfter
 pub mod Addressed
+pub mod Agreeing
 pub mod After
 pub mod Empty
 pub mod Sound

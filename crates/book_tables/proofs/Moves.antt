@@ -6,19 +6,24 @@ use Rattle.std.specs.List.{AllByRecursion, filter_map, cons_option}
 use Rattle.std.proofs.Math.Bool.{and-true, and-false}
 use Rattle.chat_model.specs.Outcomes.{is_dealt, gives_live, gives_idle, has_deal}
 use Rattle.chat_model.specs.declared.event.Stamped.{Stamped}
-use Rattle.chat_model.specs.declared.event.Event.TheVariants.{Restart, Absorbed, MailTurn}
+use Rattle.chat_model.specs.declared.event.Event.{Event}
+use Rattle.chat_model.specs.declared.event.Event.TheVariants.{Restart, Asked, Absorbed, MailTurn, PushTurn}
+use Rattle.chat_model.specs.declared.deal.Outcome.{Outcome}
 use Rattle.chat_model.specs.declared.deal.Outcome.TheVariants.{Dealt, Cleared, Missed}
 use Rattle.chat_model.specs.declared.deal.QueueId.{QueueId}
 use Rattle.chat_model.specs.declared.deal.UserVerdict.{UserVerdict}
 use Rattle.chat_model.specs.declared.ids.DealNo.{DealNo}
+use Rattle.chat_model.specs.declared.ids.MessageId.{MessageId}
 use Rattle.chat_model.specs.declared.ids.UserId.{UserId}
+use Rattle.chat_model.specs.declared.push_item.PushItem.TheVariants.{Notify}
+use Rattle.chat_model.specs.declared.request.Request.{Request}
 use Rattle.chat_model.specs.declared.trigger.Way.{Way}
 use Rattle.chat_model.specs.declared.trigger.Way.TheVariants.{Mail, Push}
 use Rattle.chat_model.specs.declared.row.Cause.TheVariants.{SwitchedOff}
 use Rattle.notice_ledger.specs.declared.accounts.Account.TheVariants as account
 use Rattle.notice_ledger.specs.Past.Journal.{Occurrence, occurrence, absorbs}
 use Rattle.notice_ledger.specs.Past.Values.{is_one_of}
-use Rattle.notice_ledger.specs.Past.Owed.{Notice, owed_by, readies, clears, ready, was_cleared, was_dealt, turn, is_turn_of, is_mail_turn_of, switch_on, decided, account_by, account_of, is_pending, waiting}
+use Rattle.notice_ledger.specs.Past.Owed.{Notice, owed_by, readies, clears, ready, was_cleared, was_dealt, turn, is_turn_of, is_mail_turn_of, is_push_turn_of, switch_on, decided, account_by, account_of, is_pending, waiting}
 use Rattle.notice_ledger.proofs.Behind.{first_behind-past}
 use Rattle.notice_ledger.proofs.Standing.{is_turn, is_readying, is_clearing, is_dealing, moved, moved_by, ready-append, ready-last, was_dealt-append, account_of-plain}
 use Rattle.notice_ledger.proofs.Waiting.{IsOwedBy, owed_by-each, owed-last, stays}
@@ -28,7 +33,7 @@ use Rattle.std.proofs.Common.{eqb, arith}
 use Rattle.chat_model.specs.declared.row.Stage.{Stage}
 use Rattle.chat_model.specs.declared.row.Stage.TheVariants.{Flight, Held, Ready}
 use Rattle.book_tables.specs.declared.tables.Waiting.{Waiting}
-use Rattle.book_tables.specs.Notices.{is_ready, is_undecided, is_mail_to, is_ready_mail_to, of_deal, is_named, rank, ready_if, readied, readied_if, dealt_by, dealt_to}
+use Rattle.book_tables.specs.Notices.{is_ready, is_undecided, is_mail_to, is_ready_mail_to, is_ready_of, of_deal, is_named, rank, goes_ready, ready_if, readied, readied_if, dealt_by, dealt_to}
 use Rattle.book_tables.specs.Tables.{stage_by, notice_at, notice_kept, in_flight}
 
 pub swapped : (a b : ℕ) → eqb a b ≡ eqb b a
@@ -44,7 +49,7 @@ next_by is_turn readies clears deals Held = if readies then Some Ready else if c
 next_by is_turn readies clears deals Flight = if readies then Some Ready else if clears then None else if deals then Some Held else Some Flight
 
 abbrev stage_next : Stamped → Waiting → Option Stage
-stage_next s w = next_by (is_turn_of w.user w.way s.event) (readies w.user w.deal w.online s.event) (clears w.user w.deal s.event) (absorbs (is_dealt w.deal) s.event) w.stage
+stage_next s w = next_by (is_turn_of w.user w.message w.way s.event) (readies w.user w.deal w.online s.event) (clears w.user w.deal s.event) (absorbs (is_dealt w.deal) s.event) w.stage
 
 -- the notice after an event
 abbrev pub step : Stamped → Waiting → Option Waiting
@@ -127,16 +132,31 @@ untouched : {X : Type 0} (xs : List X) → filter_map (λ x. Some x) xs ≡ xs
 untouched [] = refl
 untouched (x ∷ xs) = ap (λ ys. x ∷ ys) (untouched xs)
 
-pub never_turn : (s : Stamped) → ((u : UserId) → is_mail_turn_of u s.event ≡ false) → (u : UserId) (w : Way) → is_turn_of u w s.event ≡ false
-never_turn s never u Mail = never u
-never_turn s never u Push = refl
+-- an event that is no turn
+pub record IsNoTurn (e : Event) : Type 0 where
+  pub mail : (u : UserId) → is_mail_turn_of u e ≡ false
+  pub push : (u : UserId) (m : MessageId) → is_push_turn_of u m e ≡ false
+
+pub never_turn : (e : Event) → IsNoTurn e → (u : UserId) (m : MessageId) (w : Way) → is_turn_of u m w e ≡ false
+never_turn e never u m Mail = never.mail u
+never_turn e never u m Push = never.push u m
+
+-- nor is a start, a request, or an outcome that is absorbed
+pub no_start : IsNoTurn Restart
+no_start = record { mail = λ u. refl; push = λ u m. refl }
+
+pub no_request : (r : Request) → IsNoTurn (Asked r)
+no_request r = record { mail = λ u. refl; push = λ u m. refl }
+
+pub no_outcome : (o : Outcome) → IsNoTurn (Absorbed o)
+no_outcome o = record { mail = λ u. refl; push = λ u m. refl }
 
 -- by each of the tests
 by_tests : (w : Waiting) (g : Stage) (tn rd cl dl tn' rd' cl' dl' : Bool) → tn ≡ tn' → rd ≡ rd' → cl ≡ cl' → dl ≡ dl' → option_map (λ g. let v : Waiting = record w { stage = g } in v) (next_by tn rd cl dl g) ≡ option_map (λ g. let v : Waiting = record w { stage = g } in v) (next_by tn' rd' cl' dl' g)
 by_tests w g tn rd cl dl tn' rd' cl' dl' a b c d = (λ i. option_map (λ g. let v : Waiting = record w { stage = g } in v) (next_by (a i) (b i) (c i) (d i) g))
 
 -- an event that is nothing to any notice
-pub steps_left : (s : Stamped) → ((u : UserId) → is_mail_turn_of u s.event ≡ false) → ((u : UserId) (k : DealNo) (online : Bool) → readies u k online s.event ≡ false) → ((u : UserId) (k : DealNo) → clears u k s.event ≡ false) → ((k : DealNo) → absorbs (is_dealt k) s.event ≡ false)
+pub steps_left : (s : Stamped) → IsNoTurn s.event → ((u : UserId) (k : DealNo) (online : Bool) → readies u k online s.event ≡ false) → ((u : UserId) (k : DealNo) → clears u k s.event ≡ false) → ((k : DealNo) → absorbs (is_dealt k) s.event ≡ false)
     → (ws : List Waiting) → filter_map (step s) ws ≡ ws
 steps_left s never not_ready not_cleared not_dealt ws = all_steps (step s) (λ w. Some w) each ws ∙ untouched ws
   where
@@ -147,14 +167,14 @@ steps_left s never not_ready not_cleared not_dealt ws = all_steps (step s) (λ w
 
     each : (w : Waiting) → step s w ≡ Some w
     each w =
-        by_tests w w.stage (is_turn_of w.user w.way s.event) (readies w.user w.deal w.online s.event) (clears w.user w.deal s.event) (absorbs (is_dealt w.deal) s.event) false false false false
-        (never_turn s never w.user w.way) (not_ready w.user w.deal w.online) (not_cleared w.user w.deal) (not_dealt w.deal)
+        by_tests w w.stage (is_turn_of w.user w.message w.way s.event) (readies w.user w.deal w.online s.event) (clears w.user w.deal s.event) (absorbs (is_dealt w.deal) s.event) false false false false
+        (never_turn s.event never w.user w.message w.way) (not_ready w.user w.deal w.online) (not_cleared w.user w.deal) (not_dealt w.deal)
         ∙ same w w.stage
 
 -- a start makes all ready
 pub step_start : (at : ℕ) (w : Waiting) → step (record { at = at; event = Restart }) w ≡ Some (readied w)
 step_start at w =
-    by_tests w w.stage (is_turn_of w.user w.way Restart) true false false false true false false (never_turn (record { at = at; event = Restart }) (λ u. refl) w.user w.way) refl refl refl
+    by_tests w w.stage (is_turn_of w.user w.message w.way Restart) true false false false true false false (never_turn Restart no_start w.user w.message w.way) refl refl refl
     ∙ by w.stage
   where
     by : (g : Stage) → option_map (λ g. let v : Waiting = record w { stage = g } in v) (next_by false true false false g) ≡ Some (record w { stage = ready_if true g })
@@ -168,10 +188,10 @@ steps_start at ws = all_steps (step (record { at = at; event = Restart })) (λ w
 -- a mail turn takes the user's ready mails
 pub step_mails : (at : ℕ) (u : UserId) (w : Waiting) → step (record { at = at; event = MailTurn u }) w ≡ cond (is_ready_mail_to u w) None (Some w)
 step_mails at u w =
-    by_tests w w.stage (is_turn_of w.user w.way (MailTurn u)) false false false (is_mail_to u w) false false false (turns w.user w.way) refl refl refl
+    by_tests w w.stage (is_turn_of w.user w.message w.way (MailTurn u)) false false false (is_mail_to u w) false false false (turns w.user w.way) refl refl refl
     ∙ by (is_mail_to u w) w.stage
   where
-    turns : (v : UserId) (way : Way) → is_turn_of v way (MailTurn u) ≡ (v.0 == u.0 && rank way == 0)
+    turns : (v : UserId) (way : Way) → is_turn_of v w.message way (MailTurn u) ≡ (v.0 == u.0 && rank way == 0)
     turns v Mail = swapped u.0 v.0 ∙ sym (and-true (v.0 == u.0))
     turns v Push = sym (and-false (v.0 == u.0))
 
@@ -184,11 +204,41 @@ step_mails at u w =
 pub steps_mails : (at : ℕ) (u : UserId) (ws : List Waiting) → filter_map (step (record { at = at; event = MailTurn u })) ws ≡ filter (λ w. not (is_ready_mail_to u w)) ws
 steps_mails at u ws = all_steps (step (record { at = at; event = MailTurn u })) (λ w. cond (is_ready_mail_to u w) None (Some w)) (step_mails at u) ws ∙ filtered (is_ready_mail_to u) ws
 
+-- a push turn takes the push of its user and message
+pub step_push : (at : ℕ) (u : UserId) (m : MessageId) (w : Waiting) → step (record { at = at; event = PushTurn (Notify u m) }) w ≡ cond (is_ready_of u m Push w) None (Some w)
+step_push at u m w =
+    by_tests w w.stage (is_turn_of w.user w.message w.way (PushTurn (Notify u m))) false false false (is_push w.way) false false false (turns w.way) refl refl refl
+    ∙ (by (is_push w.way) w.stage ∙ ap (λ b. cond b None (Some w)) (parts (w.user.0 == u.0) (rank w.way == 1) (w.message.0 == m.0) (is_ready w)))
+  where
+    is_push : Way → Bool
+    is_push way = (w.user.0 == u.0 && rank way == 1) && w.message.0 == m.0
+
+    turns : (way : Way) → is_turn_of w.user w.message way (PushTurn (Notify u m)) ≡ ((w.user.0 == u.0 && rank way == 1) && w.message.0 == m.0)
+    turns Mail = sym (ap (λ b. b && w.message.0 == m.0) (and-false (w.user.0 == u.0)))
+    turns Push = (λ i. swapped u.0 w.user.0 i && swapped m.0 w.message.0 i) ∙ ap (λ b. b && w.message.0 == m.0) (sym (and-true (w.user.0 == u.0)))
+
+    by : (p : Bool) (g : Stage) → option_map (λ g. let v : Waiting = record w { stage = g } in v) (next_by p false false false g) ≡ cond (p && is_ready (record w { stage = g })) None (Some (record w { stage = g }))
+    by p Flight = ap (λ b. cond b None (Some (record w { stage = Flight }))) (sym (and-false p))
+    by p Held = ap (λ b. cond b None (Some (record w { stage = Held }))) (sym (and-false p))
+    by true Ready = refl
+    by false Ready = refl
+
+    parts : (a b c d : Bool) → (((a && b) && c) && d) ≡ (((a && b) && d) && c)
+    parts true true true true = refl
+    parts true true true false = refl
+    parts true true false true = refl
+    parts true true false false = refl
+    parts true false c d = refl
+    parts false b c d = refl
+
+pub steps_push : (at : ℕ) (u : UserId) (m : MessageId) (ws : List Waiting) → filter_map (step (record { at = at; event = PushTurn (Notify u m) })) ws ≡ filter (λ w. not (is_ready_of u m Push w)) ws
+steps_push at u m ws = all_steps (step (record { at = at; event = PushTurn (Notify u m) })) (λ w. cond (is_ready_of u m Push w) None (Some w)) (step_push at u m) ws ∙ filtered (is_ready_of u m Push) ws
+
 -- a cleared deal takes the user's undecided notices of it
 pub step_cleared : (at : ℕ) (u : UserId) (deals : List DealNo) (q : QueueId) (w : Waiting) → step (record { at = at; event = Absorbed (Cleared u deals q) }) w ≡ cond (is_named u deals w && is_undecided w) None (Some w)
 step_cleared at u deals q w =
-    by_tests w w.stage (is_turn_of w.user w.way (Absorbed (Cleared u deals q))) (readies w.user w.deal w.online (Absorbed (Cleared u deals q))) (clears w.user w.deal (Absorbed (Cleared u deals q))) false
-    false false (is_named u deals w) false (never_turn (record { at = at; event = Absorbed (Cleared u deals q) }) (λ v. refl) w.user w.way) (none w.online) (ap (λ b. b && has_deal deals w.deal) (swapped u.0 w.user.0)) refl
+    by_tests w w.stage (is_turn_of w.user w.message w.way (Absorbed (Cleared u deals q))) (readies w.user w.deal w.online (Absorbed (Cleared u deals q))) (clears w.user w.deal (Absorbed (Cleared u deals q))) false
+    false false (is_named u deals w) false (never_turn (Absorbed (Cleared u deals q)) (no_outcome (Cleared u deals q)) w.user w.message w.way) (none w.online) (ap (λ b. b && has_deal deals w.deal) (swapped u.0 w.user.0)) refl
     ∙ by (is_named u deals w) w.stage
   where
     none : (online : Bool) → readies w.user w.deal online (Absorbed (Cleared u deals q)) ≡ false
@@ -209,16 +259,19 @@ steps_cleared at u deals q ws =
     ∙ filtered (λ w. is_named u deals w && is_undecided w) ws
 
 -- a missed deal makes the user's undecided notices of it ready
-pub step_missed : (at : ℕ) (u : UserId) (deals : List DealNo) (w : Waiting) → step (record { at = at; event = Absorbed (Missed u deals) }) w ≡ Some (readied_if (is_named u deals w) w)
-step_missed at u deals w =
-    by_tests w w.stage (is_turn_of w.user w.way (Absorbed (Missed u deals))) (readies w.user w.deal w.online (Absorbed (Missed u deals))) false false
-    false (is_named u deals w) false false (never_turn (record { at = at; event = Absorbed (Missed u deals) }) (λ v. refl) w.user w.way) (missed w.online ∙ ap (λ b. b && has_deal deals w.deal) (swapped u.0 w.user.0)) refl refl
-    ∙ by (is_named u deals w) w.stage
+pub readies-missed : (u : UserId) (deals : List DealNo) (w : Waiting) → readies w.user w.deal w.online (Absorbed (Missed u deals)) ≡ is_named u deals w
+readies-missed u deals w = missed w.online ∙ ap (λ b. b && has_deal deals w.deal) (swapped u.0 w.user.0)
   where
     missed : (online : Bool) → readies w.user w.deal online (Absorbed (Missed u deals)) ≡ (u.0 == w.user.0 && has_deal deals w.deal)
     missed true = refl
     missed false = refl
 
+pub step_missed : (at : ℕ) (u : UserId) (deals : List DealNo) (w : Waiting) → step (record { at = at; event = Absorbed (Missed u deals) }) w ≡ Some (readied_if (is_named u deals w) w)
+step_missed at u deals w =
+    by_tests w w.stage (is_turn_of w.user w.message w.way (Absorbed (Missed u deals))) (readies w.user w.deal w.online (Absorbed (Missed u deals))) false false
+    false (is_named u deals w) false false (never_turn (Absorbed (Missed u deals)) (no_outcome (Missed u deals)) w.user w.message w.way) (readies-missed u deals w) refl refl
+    ∙ by (is_named u deals w) w.stage
+  where
     by : (m : Bool) (g : Stage) → option_map (λ g. let v : Waiting = record w { stage = g } in v) (next_by false m false false g) ≡ Some (record w { stage = ready_if m g })
     by true Flight = refl
     by false Flight = refl
@@ -231,16 +284,12 @@ pub steps_missed : (at : ℕ) (u : UserId) (deals : List DealNo) (ws : List Wait
 steps_missed at u deals ws = all_steps (step (record { at = at; event = Absorbed (Missed u deals) })) (λ w. Some (readied_if (is_named u deals w) w)) (step_missed at u deals) ws ∙ mapped (λ w. readied_if (is_named u deals w) w) ws
 
 -- a dealt deal makes its undecided notices ready or held
-pub step_dealt : (at : ℕ) (k : DealNo) (verdicts : List UserVerdict) (idle live : List UserId) → ((u : UserId) → is_one_of idle u ≡ gives_idle verdicts u) → ((u : UserId) → is_one_of live u ≡ gives_live verdicts u)
-    → (w : Waiting) → step (record { at = at; event = Absorbed (Dealt k verdicts) }) w ≡ Some (if of_deal k w then dealt_to idle live w else w)
-step_dealt at k verdicts idle live are_idle are_live w =
-    by_tests w w.stage (is_turn_of w.user w.way (Absorbed (Dealt k verdicts))) (readies w.user w.deal w.online (Absorbed (Dealt k verdicts))) false (k.0 == w.deal.0)
-    false (of_deal k w && found) false (of_deal k w) (never_turn (record { at = at; event = Absorbed (Dealt k verdicts) }) (λ v. refl) w.user w.way) found_so refl (swapped k.0 w.deal.0)
-    ∙ by (of_deal k w) found w.stage
+pub readies-dealt : (k : DealNo) (verdicts : List UserVerdict) (idle live : List UserId) → ((u : UserId) → is_one_of idle u ≡ gives_idle verdicts u) → ((u : UserId) → is_one_of live u ≡ gives_live verdicts u)
+    → (w : Waiting) → readies w.user w.deal w.online (Absorbed (Dealt k verdicts)) ≡ (of_deal k w && goes_ready idle live w)
+readies-dealt k verdicts idle live are_idle are_live w =
+    all_tests (k.0 == w.deal.0) (gives_idle verdicts w.user) w.online (gives_live verdicts w.user)
+    ∙ (λ n. swapped k.0 w.deal.0 n && (sym (are_idle w.user) n || (w.online && sym (are_live w.user) n)))
   where
-    found : Bool
-    found = is_one_of idle w.user || (w.online && is_one_of live w.user)
-
     all_tests : (q i o l : Bool) → (((q && i) || (o && (q && l))) || false) ≡ (q && (i || (o && l)))
     all_tests true true o l = refl
     all_tests true false true true = refl
@@ -249,11 +298,14 @@ step_dealt at k verdicts idle live are_idle are_live w =
     all_tests false i true l = refl
     all_tests false i false l = refl
 
-    found_so : readies w.user w.deal w.online (Absorbed (Dealt k verdicts)) ≡ (of_deal k w && found)
-    found_so =
-        all_tests (k.0 == w.deal.0) (gives_idle verdicts w.user) w.online (gives_live verdicts w.user)
-        ∙ (λ n. swapped k.0 w.deal.0 n && (sym (are_idle w.user) n || (w.online && sym (are_live w.user) n)))
-
+pub step_dealt : (at : ℕ) (k : DealNo) (verdicts : List UserVerdict) (idle live : List UserId) → ((u : UserId) → is_one_of idle u ≡ gives_idle verdicts u) → ((u : UserId) → is_one_of live u ≡ gives_live verdicts u)
+    → (w : Waiting) → step (record { at = at; event = Absorbed (Dealt k verdicts) }) w ≡ Some (if of_deal k w then dealt_to idle live w else w)
+step_dealt at k verdicts idle live are_idle are_live w =
+    by_tests w w.stage (is_turn_of w.user w.message w.way (Absorbed (Dealt k verdicts))) (readies w.user w.deal w.online (Absorbed (Dealt k verdicts))) false (k.0 == w.deal.0)
+    false (of_deal k w && goes_ready idle live w) false (of_deal k w) (never_turn (Absorbed (Dealt k verdicts)) (no_outcome (Dealt k verdicts)) w.user w.message w.way)
+    (readies-dealt k verdicts idle live are_idle are_live w) refl (swapped k.0 w.deal.0)
+    ∙ by (of_deal k w) (goes_ready idle live w) w.stage
+  where
     by : (q r : Bool) (g : Stage) → option_map (λ g. let v : Waiting = record w { stage = g } in v) (next_by false (q && r) false q g) ≡ Some (if q then record w { stage = dealt_by r g } else record w { stage = g })
     by true true Flight = refl
     by true false Flight = refl

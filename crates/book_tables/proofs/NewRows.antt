@@ -28,6 +28,6 @@ new_message_rows j s = option_to_list (option_map (λ m. row.Message (record { 0
 abbrev pub new_outbox_rows : List Stamped → Stamped → List Row
 new_outbox_rows j s = outbox_rows_from (length (outbox j) + 1) (entries_by j s.at s.event)
 
--- the changes of the rows that an event brings, where these are the changes of pending rows
-abbrev pub changes_with : List Stamped → Stamped → List RowChange → List RowChange
-changes_with j s pending = map Put (new_user_rows j s.event) ++ (map Put (new_message_rows j s) ++ (pending ++ map Put (new_outbox_rows j s)))
+-- the changes of the rows that an event brings, where these are the changes of pending rows, and these of active pushes'
+abbrev pub changes_with : List Stamped → Stamped → List RowChange → List RowChange → List RowChange
+changes_with j s pending active = map Put (new_user_rows j s.event) ++ (map Put (new_message_rows j s) ++ (pending ++ (active ++ map Put (new_outbox_rows j s))))

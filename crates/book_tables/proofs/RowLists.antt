@@ -2,7 +2,6 @@
 use Rattle.std.proofs.Common.{◌≡◌, ℕ, zero, suc, ◌+◌, ◌<◌, List, [], ◌∷◌, ◌++◌, length, map, take, get_or, refl, sym, ap, ◌∙◌, add-zero, append_assoc, arith}
 use Rattle.std.specs.Prelude.{Some, false, slice_get}
 use Rattle.std.specs.Option.{option_map_or}
-use Rattle.std.proofs.lemmas.List.{map-append}
 use Rattle.chat_model.specs.declared.event.Stamped.{Stamped}
 use Rattle.chat_model.specs.declared.ids.UserId.{UserId}
 use Rattle.chat_model.specs.declared.mentions.UserName.{UserName}
@@ -10,17 +9,16 @@ use Rattle.chat_model.specs.declared.row.Row.{Row}
 use Rattle.chat_model.specs.declared.row.Row.TheVariants as row
 use Rattle.chat_model.specs.declared.row.RowChange.{RowChange}
 use Rattle.chat_model.specs.declared.row.RowChange.TheVariants.{Put}
-use Rattle.chat_model.specs.declared.entry.Entry.{Entry}
 use Rattle.chat_model.specs.Rows.{changed_all}
 use Rattle.notice_ledger.specs.Past.Values.{numbered, Person, people, named_from, SentMessage, messages, is_bot, settings}
 use Rattle.notice_ledger.specs.Past.Outbox.{outbox}
 use Rattle.notice_ledger.specs.Past.Rows.{user_rows_from, message_rows_from, outbox_rows_from, rows}
-use Rattle.notice_ledger.proofs.RowOrder.{rows-changed_all}
+use Rattle.book_tables.specs.declared.pushes.PushKey.{PushKey}
 use Rattle.book_tables.specs.declared.tables.Tables.{Tables}
 use Rattle.book_tables.specs.Tables.{Holds}
 use Rattle.book_tables.specs.declared.tables.Waiting.{Waiting}
-use Rattle.book_tables.specs.Prepared.{notice_row}
-use Rattle.book_tables.proofs.RowsAfter.{all_kept, pending_rows-kept}
+use Rattle.book_tables.specs.Prepared.{notice_row, active_row}
+use Rattle.book_tables.proofs.RowsAfter.{all_kept, rows-made}
 
 -- the rows of a list, the first with this number
 abbrev pub rows_by : {A : Type 0} → (ℕ → A → Row) → ℕ → List A → List Row
@@ -88,22 +86,29 @@ notices_put : (ws : List Waiting) → map (λ w. Put (notice_row w)) ws ≡ map 
 notices_put [] = refl
 notices_put (w ∷ ws) = ap (λ cs. Put (notice_row w) ∷ cs) (notices_put ws)
 
-joined : (us ms ps os : List Row) → ((map Put us ++ map Put ms) ++ map Put ps) ++ map Put os ≡ map Put (us ++ (ms ++ (ps ++ os)))
-joined us ms ps os = simp (append_assoc, map-append)
+-- and those of the active pushes
+active_put : (ps : List PushKey) → map (λ p. Put (active_row p)) ps ≡ map Put (map active_row ps)
+active_put [] = refl
+active_put (p ∷ ps) = ap (λ cs. Put (active_row p) ∷ cs) (active_put ps)
+
+joined : (us ms ps qs os : List RowChange) → (((us ++ ms) ++ ps) ++ qs) ++ os ≡ us ++ (ms ++ (ps ++ (qs ++ os)))
+joined us ms ps qs os = simp append_assoc
 
 -- the puts of everything that has a row, table by table, make the rows
-pub rows_put : (t : Tables) (past : List Stamped) → Holds t past → (users all waits entries : List RowChange) → users ≡ map Put (user_rows_from past 1 (people past)) → all ≡ users ++ map Put (message_rows_from 1 (messages past))
-    → waits ≡ all ++ map (λ w. Put (notice_row w)) t.waiting.items → entries ≡ waits ++ map Put (outbox_rows_from 1 t.outbox.items) → changed_all entries [] ≡ rows past
-rows_put t past h users all waits entries are_users are_messages are_waits are_entries =
-    let us = user_rows_from past 1 (people past) in let ms = message_rows_from 1 (messages past) in let ps = map notice_row (all_kept past) in let os = outbox_rows_from 1 (outbox past) in
-    let put_messages : all ≡ map Put us ++ map Put ms = are_messages ∙ ap (λ (cs : List RowChange). cs ++ map Put ms) are_users in
-    let put_waits : waits ≡ (map Put us ++ map Put ms) ++ map Put ps =
+pub rows_put : (t : Tables) (past : List Stamped) → Holds t past → (users all waits active entries : List RowChange) → users ≡ map Put (user_rows_from past 1 (people past)) → all ≡ users ++ map Put (message_rows_from 1 (messages past))
+    → waits ≡ all ++ map (λ w. Put (notice_row w)) t.waiting.items → active ≡ waits ++ map (λ p. Put (active_row p)) t.active.items → entries ≡ active ++ map Put (outbox_rows_from 1 t.outbox.items) → changed_all entries [] ≡ rows past
+rows_put t past h users all waits active entries are_users are_messages are_waits are_active are_entries =
+    let us = map Put (user_rows_from past 1 (people past)) in let ms = map Put (message_rows_from 1 (messages past)) in let ps = map Put (map notice_row (all_kept past)) in
+    let qs = map Put (map active_row t.active.items) in let os = map Put (outbox_rows_from 1 (outbox past)) in
+    let put_messages : all ≡ us ++ ms = are_messages ∙ ap (λ (cs : List RowChange). cs ++ ms) are_users in
+    let put_waits : waits ≡ (us ++ ms) ++ ps =
     are_waits
     ∙ (ap (λ (cs : List RowChange). cs ++ map (λ w. Put (notice_row w)) t.waiting.items) put_messages
-    ∙ ap (λ (cs : List RowChange). (map Put us ++ map Put ms) ++ cs) (ap (map (λ w. Put (notice_row w))) h.waiting ∙ notices_put (all_kept past))) in
-    let put_entries : entries ≡ ((map Put us ++ map Put ms) ++ map Put ps) ++ map Put os =
+    ∙ ap (λ (cs : List RowChange). (us ++ ms) ++ cs) (ap (map (λ w. Put (notice_row w))) h.waiting ∙ notices_put (all_kept past))) in
+    let put_active : active ≡ ((us ++ ms) ++ ps) ++ qs =
+    are_active ∙ (λ i. put_waits i ++ active_put t.active.items i) in
+    let put_entries : entries ≡ (((us ++ ms) ++ ps) ++ qs) ++ os =
     are_entries
-    ∙ (ap (λ (cs : List RowChange). cs ++ map Put (outbox_rows_from 1 t.outbox.items)) put_waits
-    ∙ ap (λ (es : List Entry). ((map Put us ++ map Put ms) ++ map Put ps) ++ map Put (outbox_rows_from 1 es)) h.outbox) in
-    ap (λ (cs : List RowChange). changed_all cs []) (put_entries ∙ joined us ms ps os)
-    ∙ (ap (λ (rs : List Row). changed_all (map Put (us ++ (ms ++ (rs ++ os)))) []) (sym (pending_rows-kept past)) ∙ sym (rows-changed_all past))
+    ∙ (λ i. put_active i ++ map Put (outbox_rows_from 1 (h.outbox i))) in
+    ap (λ (cs : List RowChange). changed_all cs []) (put_entries ∙ joined us ms ps qs os)
+    ∙ rows-made past t.active.items h.active

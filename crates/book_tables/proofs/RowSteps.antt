@@ -4,16 +4,18 @@ use Rattle.std.specs.Prelude.{IfSome, option_map, IsPermutation, if◌then◌els
 use Rattle.std.specs.Ordering.{is_eq}
 use Rattle.std.specs.List.{AllByRecursion, filter_map, flat_map, cons_option, list_any}
 use Rattle.std.proofs.lemmas.List.{map-append, append-nil}
-use Rattle.std.proofs.lemmas.Bool.{eq-eqb, eqb-true}
+use Rattle.std.proofs.Math.Bool.{and-true, and-false}
+use Rattle.std.proofs.lemmas.Bool.{and_parts, eq-eqb, eqb-true}
 use Rattle.std.proofs.lemmas.List.Sorted.{list_any-IsPermutation}
 use Rattle.chat_model.specs.declared.event.Stamped.{Stamped}
-use Rattle.chat_model.specs.declared.event.Event.TheVariants.{Restart, Absorbed, MailTurn}
+use Rattle.chat_model.specs.declared.event.Event.TheVariants.{Restart, Absorbed, MailTurn, PushTurn}
 use Rattle.chat_model.specs.declared.deal.Outcome.TheVariants.{Dealt, Cleared, Missed}
 use Rattle.chat_model.specs.declared.deal.QueueId.{QueueId}
 use Rattle.chat_model.specs.declared.deal.UserVerdict.{UserVerdict}
 use Rattle.chat_model.specs.declared.ids.DealNo.{DealNo}
 use Rattle.chat_model.specs.declared.ids.UserId.{UserId}
 use Rattle.chat_model.specs.declared.ids.MessageId.{MessageId}
+use Rattle.chat_model.specs.declared.push_item.PushItem.TheVariants.{Notify}
 use Rattle.chat_model.specs.declared.trigger.Way.{Way}
 use Rattle.chat_model.specs.declared.trigger.Way.TheVariants.{Mail, Push}
 use Rattle.chat_model.specs.declared.row.Row.{Row}
@@ -27,18 +29,18 @@ use Rattle.chat_model.proofs.Rows.{row_after, row_after_all, row_after_all-appen
 use Rattle.notice_ledger.specs.Past.Journal.{occurrence, absorbs}
 use Rattle.notice_ledger.specs.Past.Values.{is_one_of}
 use Rattle.chat_model.specs.Outcomes.{is_dealt}
-use Rattle.notice_ledger.specs.Past.Owed.{Notice, same_way, owed_by, readies, clears, is_mail_turn_of, waiting}
+use Rattle.notice_ledger.specs.Past.Owed.{Notice, same_way, owed_by, readies, clears, waiting}
 use Rattle.notice_ledger.proofs.Apart.{Pairwise, Differ, waiting-apart}
 use Rattle.notice_ledger.proofs.Lists.{AllByRecursion-append}
 use Rattle.notice_ledger.proofs.RowKeys.{table, equal_from}
 use Rattle.chat_model.specs.declared.row.Stage.{Stage}
 use Rattle.chat_model.specs.declared.row.Stage.TheVariants.{Flight, Held, Ready}
 use Rattle.book_tables.specs.declared.tables.Waiting.{Waiting}
-use Rattle.book_tables.specs.Notices.{rank, is_ready, is_undecided, is_ready_mail_to, is_undecided_at, is_undecided_of, of_deal, is_named, named_by, ready_if, readied, dealt_by, dealt_to}
+use Rattle.book_tables.specs.Notices.{rank, is_ready, is_undecided, is_ready_mail_to, is_ready_of, is_undecided_at, is_undecided_of, of_deal, is_named, named_by, ready_if, readied, dealt_by, dealt_to}
 use Rattle.book_tables.specs.Prepared.{notice_row, key_of_notice, puts_where, removes_where, removed_mail}
 use Rattle.book_tables.specs.Batched.{messages_to}
 use Rattle.book_tables.specs.Tables.{notice_kept, in_flight}
-use Rattle.book_tables.proofs.Moves.{swapped, step, kept-append, steps_left, step_start, step_mails, step_cleared, step_missed, step_dealt}
+use Rattle.book_tables.proofs.Moves.{IsNoTurn, swapped, step, kept-append, steps_left, step_start, step_mails, step_push, step_cleared, step_missed, step_dealt}
 use Rattle.book_tables.proofs.RowMoves.{change_key, KeysDiffer, passes_any, rows-moved}
 use Rattle.book_tables.proofs.RowsAfter.{AreOf, all_kept, MakesPending}
 
@@ -161,7 +163,7 @@ or-none false = refl
 -- ---- each event
 
 -- an event that is nothing to any notice
-pub makes_left : (j : List Stamped) (s : Stamped) → ((u : UserId) → is_mail_turn_of u s.event ≡ false) → ((u : UserId) (k : DealNo) (online : Bool) → readies u k online s.event ≡ false) → ((u : UserId) (k : DealNo) → clears u k s.event ≡ false) → ((k : DealNo) → absorbs (is_dealt k) s.event ≡ false)
+pub makes_left : (j : List Stamped) (s : Stamped) → IsNoTurn s.event → ((u : UserId) (k : DealNo) (online : Bool) → readies u k online s.event ≡ false) → ((u : UserId) (k : DealNo) → clears u k s.event ≡ false) → ((k : DealNo) → absorbs (is_dealt k) s.event ≡ false)
     → MakesPending j s (map (λ w. Put (notice_row w)) (map in_flight (owed_by (occurrence j s))))
 makes_left j s never not_ready not_cleared not_dealt = record {
   are = puts_are (λ w. w) (map in_flight (owed_by (occurrence j s)));
@@ -240,6 +242,55 @@ makes_taken j at u ms moved =
     of : (ns : List MessageId) → AreOf 2 (map (removed_mail u) ns)
     of [] = tt
     of (n ∷ ns) = (refl, of ns)
+
+-- the row of a push goes at its turn, where it is among those that are ready
+module _ (u : UserId) (m : MessageId) where
+  abbrev its_key : RowKey
+  its_key = key.Pending u m Push
+
+  keyed : (w : Waiting) → is_ready_of u m Push w ≡ true → key_of_notice w ≡ its_key
+  keyed w h =
+      let third = and_parts ((w.user.0 == u.0 && rank w.way == 1) && is_ready w) (w.message.0 == m.0) h in
+      let second = and_parts (w.user.0 == u.0 && rank w.way == 1) (is_ready w) third.0 in
+      let first = and_parts (w.user.0 == u.0) (rank w.way == 1) second.0 in
+      (λ i. key.Pending (record { 0 = eqb-true w.user.0 u.0 first.0 i }) (record { 0 = eqb-true w.message.0 m.0 third.1 i }) (by_push w.way first.1 i))
+    where
+      by_push : (way : Way) → (rank way == 1) ≡ true → way ≡ Push
+      by_push Mail e = absurd (cc)
+      by_push Push e = refl
+
+  gone-push : (k : RowKey) (ws : List Waiting) (x : Option Row) → row_after_all k (removes_where (is_ready_of u m Push) ws) x ≡ cond (is_eq (key_cmp its_key k) && list_any (is_ready_of u m Push) ws) None x
+  gone-push k [] x = ap (λ b. cond b None x) (sym (and-false (is_eq (key_cmp its_key k))))
+  gone-push k (w ∷ ws) x = by (is_ready_of u m Push w) refl (gone-push k ws)
+    where
+      taken : (a b : Bool) → cond (a && b) None (cond a None x) ≡ cond (a && true) None x
+      taken true true = refl
+      taken true false = refl
+      taken false b = refl
+
+      by : (b : Bool) → is_ready_of u m Push w ≡ b → ((x : Option Row) → row_after_all k (removes_where (is_ready_of u m Push) ws) x ≡ cond (is_eq (key_cmp its_key k) && list_any (is_ready_of u m Push) ws) None x)
+          → row_after_all k (map (λ v. Remove (key_of_notice v)) (cond b (w ∷ filter (is_ready_of u m Push) ws) (filter (is_ready_of u m Push) ws))) x ≡ cond (is_eq (key_cmp its_key k) && (b || list_any (is_ready_of u m Push) ws)) None x
+      by true e rest =
+          ap (λ q. row_after_all k (removes_where (is_ready_of u m Push) ws) (cond (is_eq (key_cmp q k)) None x)) (keyed w e)
+          ∙ (rest (cond (is_eq (key_cmp its_key k)) None x) ∙ taken (is_eq (key_cmp its_key k)) (list_any (is_ready_of u m Push) ws))
+      by false e rest = rest x
+
+  pub makes_push : (j : List Stamped) (at : ℕ) → list_any (is_ready_of u m Push) (all_kept j) ≡ true → MakesPending j (record { at = at; event = PushTurn (Notify u m) }) (Remove its_key ∷ [])
+  makes_push j at there =
+      let s : Stamped = record { at = at; event = PushTurn (Notify u m) } in
+      let all = subst (MakesPending j s) (one_test (λ t. removes_where t (all_kept j)) (is_ready_of u m Push))
+      (removes_make j s refl (is_ready_of u m Push ∷ []) (λ w. ap (option_map notice_row) (step_push at u m w) ∙ (by w (is_ready_of u m Push w) ∙ ap (λ b. cond b None (Some (notice_row w))) (sym (or-none (is_ready_of u m Push w)))))) in
+      record {
+        are = (refl, tt);
+        makes = λ k.
+            let before = row_after_all k (map Put (map notice_row (all_kept j))) None in
+            ap (λ b. cond b None before) (sym (and-true (is_eq (key_cmp its_key k)))) ∙ (ap (λ b. cond (is_eq (key_cmp its_key k) && b) None before) (sym there)
+            ∙ (sym (gone-push k (all_kept j) before) ∙ all.makes k));
+      }
+    where
+      by : (w : Waiting) (b : Bool) → option_map notice_row (cond b None (Some w)) ≡ cond b None (Some (notice_row w))
+      by w true = refl
+      by w false = refl
 
 pub makes_dealt : (j : List Stamped) (at : ℕ) (k : DealNo) (verdicts : List UserVerdict) (idle live : List UserId) → ((u : UserId) → is_one_of idle u ≡ gives_idle verdicts u) → ((u : UserId) → is_one_of live u ≡ gives_live verdicts u)
     → MakesPending j (record { at = at; event = Absorbed (Dealt k verdicts) }) (puts_where (is_undecided_of k) (dealt_to idle live) (all_kept j))

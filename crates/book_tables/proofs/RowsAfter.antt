@@ -5,9 +5,12 @@ use Rattle.std.specs.List.{AllByRecursion, filter_map, cons_option}
 use Rattle.std.proofs.lemmas.List.{map-append}
 use Rattle.chat_model.specs.declared.event.Stamped.{Stamped}
 use Rattle.chat_model.specs.declared.event.Event.{Event}
-use Rattle.chat_model.specs.declared.event.Event.TheVariants.{Restart, Asked, Absorbed, MailTurn}
+use Rattle.chat_model.specs.declared.event.Event.TheVariants.{Restart, Asked, Absorbed, MailTurn, PushTurn}
 use Rattle.chat_model.specs.declared.request.Request.TheVariants.{AddUser, AddGroup, Member, AddChannel, Subscribe, Set, SetChannel, SetPolicy, Mute, Send, Direct}
 use Rattle.chat_model.specs.declared.entry.Entry.{Entry}
+use Rattle.chat_model.specs.declared.ids.MessageId.{MessageId}
+use Rattle.chat_model.specs.declared.ids.UserId.{UserId}
+use Rattle.chat_model.specs.declared.trigger.Way.TheVariants.{Push}
 use Rattle.chat_model.specs.declared.row.Row.{Row}
 use Rattle.chat_model.specs.declared.row.Row.TheVariants as row
 use Rattle.chat_model.specs.declared.row.RowKey.{RowKey}
@@ -15,30 +18,36 @@ use Rattle.chat_model.specs.declared.row.RowKey.TheVariants as key
 use Rattle.chat_model.specs.declared.row.RowChange.{RowChange}
 use Rattle.chat_model.specs.declared.row.RowChange.TheVariants.{Put, Remove}
 use Rattle.chat_model.specs.Rows.{key_of, row_at, changed_all}
-use Rattle.chat_model.proofs.Rows.{row_after, row_after_all, row_at-changed_all, row_after_all-append, changed_all-same}
+use Rattle.chat_model.proofs.Rows.{row_after, row_after_all, row_at-changed_all, row_after_all-append, changed_all-same, IsAscending-nil}
 use Rattle.notice_ledger.specs.Past.Journal.{Occurrence, occurrence}
 use Rattle.chat_model.specs.declared.row.Cause.TheVariants.{SwitchedOff}
 use Rattle.chat_model.specs.Settings.{changed_settings}
 use Rattle.notice_ledger.specs.Past.Values.{Person, person, people, SentMessage, message_of, messages, settings}
-use Rattle.notice_ledger.specs.declared.accounts.Account.TheVariants as account
-use Rattle.notice_ledger.specs.Past.Owed.{Notice, notices, ready, was_cleared, was_dealt, turn, switch_on, decided, account_by, account_of, is_pending, waiting}
+use Rattle.notice_ledger.specs.declared.accounts.Account.TheVariants as accounts
+use Rattle.notice_ledger.specs.Past.Owed.{Notice, notices, ready, was_cleared, was_dealt, turn, switch_on, decided, account_by, account_of, account, is_handed, is_pending, waiting}
 use Rattle.notice_ledger.specs.Past.Outbox.{outbox, entries_by}
+use Rattle.notice_ledger.specs.Past.Pushes.{is_push_turn}
 use Rattle.notice_ledger.specs.Past.Rows.{stage_of, user_rows_from, message_rows_from, outbox_rows_from, pending_row, listed_rows, by_key, rows}
+use Rattle.notice_ledger.specs.Past.Rows as ledger
+use Rattle.notice_ledger.proofs.PushTurns.{is_handed-same}
 use Rattle.notice_ledger.proofs.Appended.{people-nil, messages-nil, messages-append, notices-nil, outbox-nil, outbox-append}
 use Rattle.notice_ledger.proofs.OneMore.{row_at_stage, pending_rows-waiting}
 use Rattle.notice_ledger.proofs.Standing.{account_of-plain}
 use Rattle.notice_ledger.proofs.Waiting.{waiting-pending}
 use Rattle.notice_ledger.proofs.RowKeys.{table, other_key}
 use Rattle.notice_ledger.proofs.RowOrder.{rows-ascending, rows-changed_all}
+use Rattle.book_tables.specs.declared.pushes.PushKey.{PushKey}
 use Rattle.book_tables.specs.declared.tables.Waiting.{Waiting}
+use Rattle.book_tables.specs.Pushes.{has_push}
 use Rattle.book_tables.specs.Tables.{stage_by, notice_at, notice_kept}
+use Rattle.book_tables.proofs.ActivePushes.{active_keys, active_rows-keys, active_puts, puts_have}
 use Rattle.book_tables.proofs.NewRows.{new_user_rows, new_message_rows, new_outbox_rows, changes_with}
 use Rattle.book_tables.proofs.RowMoves.{change_key}
 use Rattle.notice_ledger.specs.Lawful.{is_lawful_after}
 use Rattle.notice_ledger.specs.Rows as any
 use Rattle.notice_ledger.proofs.LawfulLemmas.{lawful-next}
 use Rattle.book_tables.specs.declared.prepared.Prepared.{Prepared}
-use Rattle.book_tables.specs.Prepared.{IsPreparedFor, changes_of, notice_row}
+use Rattle.book_tables.specs.Prepared.{IsPreparedFor, changes_of, notice_row, active_row}
 use Rattle.book_tables.proofs.UserRows.{users-after}
 
 -- ---- tables
@@ -56,41 +65,54 @@ untouched t k [] x of other = refl
 untouched t k (c ∷ cs) x of other =
     ap (row_after_all k cs) (untouched_by k c x (λ e. other (sym of.0 ∙ e))) ∙ untouched t k cs x of.1 other
 
--- of four tables' changes those of a key's own
-abbrev own : RowKey → List RowChange → List RowChange → List RowChange → List RowChange → List RowChange
-own (key.User user) us ms ps os = us
-own (key.Message message) us ms ps os = ms
-own (key.Pending user message way) us ms ps os = ps
-own (key.Outbox number) us ms ps os = os
+-- of five tables' changes those of a key's own
+abbrev own : RowKey → List RowChange → List RowChange → List RowChange → List RowChange → List RowChange → List RowChange
+own (key.User user) us ms ps qs os = us
+own (key.Message message) us ms ps qs os = ms
+own (key.Pending user message way) us ms ps qs os = ps
+own (key.Active user message) us ms ps qs os = qs
+own (key.Outbox number) us ms ps qs os = os
 
-pub record AreTables (us ms ps os : List RowChange) : Type 0 where
+pub record AreTables (us ms ps qs os : List RowChange) : Type 0 where
   pub users : AreOf 0 us
   pub messages : AreOf 1 ms
   pub pending : AreOf 2 ps
-  pub outbox : AreOf 3 os
+  pub active : AreOf 3 qs
+  pub outbox : AreOf 4 os
 
-own_last : (k : RowKey) (us ms ps os : List RowChange) (x : Option Row) → AreTables us ms ps os → row_after_all k os (row_after_all k ps (row_after_all k ms (row_after_all k us x))) ≡ row_after_all k (own k us ms ps os) x
-own_last (key.User u) us ms ps os x of =
+own_last : (k : RowKey) (us ms ps qs os : List RowChange) (x : Option Row) → AreTables us ms ps qs os
+    → row_after_all k os (row_after_all k qs (row_after_all k ps (row_after_all k ms (row_after_all k us x)))) ≡ row_after_all k (own k us ms ps qs os) x
+own_last (key.User u) us ms ps qs os x of =
     let k = key.User u in let y = row_after_all k us x in
-    untouched 3 k os (row_after_all k ps (row_after_all k ms y)) of.outbox (omega arith)
-    ∙ (untouched 2 k ps (row_after_all k ms y) of.pending (omega arith) ∙ untouched 1 k ms y of.messages (omega arith))
-own_last (key.Message m) us ms ps os x of =
+    untouched 4 k os (row_after_all k qs (row_after_all k ps (row_after_all k ms y))) of.outbox (omega arith)
+    ∙ (untouched 3 k qs (row_after_all k ps (row_after_all k ms y)) of.active (omega arith)
+    ∙ (untouched 2 k ps (row_after_all k ms y) of.pending (omega arith) ∙ untouched 1 k ms y of.messages (omega arith)))
+own_last (key.Message m) us ms ps qs os x of =
     let k = key.Message m in let y = row_after_all k us x in
-    untouched 3 k os (row_after_all k ps (row_after_all k ms y)) of.outbox (omega arith)
-    ∙ (untouched 2 k ps (row_after_all k ms y) of.pending (omega arith) ∙ ap (row_after_all k ms) (untouched 0 k us x of.users (omega arith)))
-own_last (key.Pending u m w) us ms ps os x of =
+    untouched 4 k os (row_after_all k qs (row_after_all k ps (row_after_all k ms y))) of.outbox (omega arith)
+    ∙ (untouched 3 k qs (row_after_all k ps (row_after_all k ms y)) of.active (omega arith)
+    ∙ (untouched 2 k ps (row_after_all k ms y) of.pending (omega arith) ∙ ap (row_after_all k ms) (untouched 0 k us x of.users (omega arith))))
+own_last (key.Pending u m w) us ms ps qs os x of =
     let k = key.Pending u m w in let y = row_after_all k us x in
-    untouched 3 k os (row_after_all k ps (row_after_all k ms y)) of.outbox (omega arith)
-    ∙ ap (row_after_all k ps) (untouched 1 k ms y of.messages (omega arith) ∙ untouched 0 k us x of.users (omega arith))
-own_last (key.Outbox n) us ms ps os x of =
+    untouched 4 k os (row_after_all k qs (row_after_all k ps (row_after_all k ms y))) of.outbox (omega arith)
+    ∙ (untouched 3 k qs (row_after_all k ps (row_after_all k ms y)) of.active (omega arith)
+    ∙ ap (row_after_all k ps) (untouched 1 k ms y of.messages (omega arith) ∙ untouched 0 k us x of.users (omega arith)))
+own_last (key.Active u m) us ms ps qs os x of =
+    let k = key.Active u m in let y = row_after_all k us x in
+    untouched 4 k os (row_after_all k qs (row_after_all k ps (row_after_all k ms y))) of.outbox (omega arith)
+    ∙ ap (row_after_all k qs) (untouched 2 k ps (row_after_all k ms y) of.pending (omega arith) ∙ (untouched 1 k ms y of.messages (omega arith) ∙ untouched 0 k us x of.users (omega arith)))
+own_last (key.Outbox n) us ms ps qs os x of =
     let k = key.Outbox n in let y = row_after_all k us x in
-    ap (row_after_all k os) (untouched 2 k ps (row_after_all k ms y) of.pending (omega arith) ∙ (untouched 1 k ms y of.messages (omega arith) ∙ untouched 0 k us x of.users (omega arith)))
+    ap (row_after_all k os)
+    (untouched 3 k qs (row_after_all k ps (row_after_all k ms y)) of.active (omega arith)
+    ∙ (untouched 2 k ps (row_after_all k ms y) of.pending (omega arith) ∙ (untouched 1 k ms y of.messages (omega arith) ∙ untouched 0 k us x of.users (omega arith))))
 
-own_changes : (k : RowKey) (us ms ps os : List RowChange) (x : Option Row) → AreTables us ms ps os → row_after_all k (us ++ (ms ++ (ps ++ os))) x ≡ row_after_all k (own k us ms ps os) x
-own_changes k us ms ps os x of =
-    row_after_all-append k us (ms ++ (ps ++ os)) x
-    ∙ (row_after_all-append k ms (ps ++ os) (row_after_all k us x)
-    ∙ (row_after_all-append k ps os (row_after_all k ms (row_after_all k us x)) ∙ own_last k us ms ps os x of))
+own_changes : (k : RowKey) (us ms ps qs os : List RowChange) (x : Option Row) → AreTables us ms ps qs os → row_after_all k (us ++ (ms ++ (ps ++ (qs ++ os)))) x ≡ row_after_all k (own k us ms ps qs os) x
+own_changes k us ms ps qs os x of =
+    row_after_all-append k us (ms ++ (ps ++ (qs ++ os))) x
+    ∙ (row_after_all-append k ms (ps ++ (qs ++ os)) (row_after_all k us x)
+    ∙ (row_after_all-append k ps (qs ++ os) (row_after_all k ms (row_after_all k us x))
+    ∙ (row_after_all-append k qs os (row_after_all k ps (row_after_all k ms (row_after_all k us x))) ∙ own_last k us ms ps qs os x of)))
 
 -- ---- each table's rows
 
@@ -109,7 +131,11 @@ pub waiting_are : (ws : List Waiting) → AreOf 2 (map Put (map notice_row ws))
 waiting_are [] = tt
 waiting_are (w ∷ ws) = (refl, waiting_are ws)
 
-pub outbox_are : (n : ℕ) (es : List Entry) → AreOf 3 (map Put (outbox_rows_from n es))
+pub active_are : (ps : List PushKey) → AreOf 3 (map Put (map active_row ps))
+active_are [] = tt
+active_are (p ∷ ps) = (refl, active_are ps)
+
+pub outbox_are : (n : ℕ) (es : List Entry) → AreOf 4 (map Put (outbox_rows_from n es))
 outbox_are n [] = tt
 outbox_are n (e ∷ es) = (refl, outbox_are (n + 1) es)
 
@@ -132,6 +158,7 @@ new_users_are j (Asked (Send sender channel topic text)) = tt
 new_users_are j (Asked (Direct sender to text)) = tt
 new_users_are j (Absorbed outcome) = tt
 new_users_are j (MailTurn user) = tt
+new_users_are j (PushTurn item) = tt
 
 new_messages_are : (j : List Stamped) (s : Stamped) → AreOf 1 (map Put (new_message_rows j s))
 new_messages_are j s = put_some_are 1 (λ (m : SentMessage). row.Message (record { 0 = length (messages j) + 1 }) m.sender m.text false) (λ m. refl) (message_of (occurrence j s))
@@ -182,7 +209,7 @@ one_pending : (n : Notice) (t r : Option Occurrence) (c d : Bool) → is_pending
     → option_map (row_at_stage n) (stage_of (account_by (option_map (decided n) t) None (is_some r) c d)) ≡ Some (notice_row (notice_at (stage_by d (is_some r)) n))
 one_pending n (Some x) r c d h = absurd (was_decided (switch_on x.past n.user n.way) h)
   where
-    was_decided : (b : Bool) → is_pending (if b then account.Handed else account.Cancelled SwitchedOff) ≡ true → ⊥
+    was_decided : (b : Bool) → is_pending (if b then accounts.Handed else accounts.Cancelled SwitchedOff) ≡ true → ⊥
     was_decided true h = cc
     was_decided false h = cc
 one_pending n None (Some o) c d h = refl
@@ -202,59 +229,100 @@ pending_rows-kept j = pending_rows-waiting j ∙ each (waiting j) (waiting-pendi
     each [] all = refl
     each (n ∷ ns) all = (λ i. cons_option (pending_kept j n all.0 i) (each ns all.1 i))
 
+-- ---- the rows of active pushes
+
+-- changes of them that make of the rows of the active pushes those of the active pushes after the event
+pub record MakesActive (j : List Stamped) (s : Stamped) (changes : List RowChange) : Type 0 where
+  pub are : AreOf 3 changes
+  pub makes : (u : UserId) (m : MessageId)
+      → let k = key.Active u m in row_after_all k changes (row_after_all k (map Put (map active_row (active_keys j))) None) ≡ row_after_all k (map Put (map active_row (active_keys (j ++ s ∷ [])))) None
+
+-- no change, where the event is no push turn
+pub active_left : (j : List Stamped) (s : Stamped) → is_push_turn s.event ≡ false → MakesActive j s []
+active_left j s other = record {
+  are = tt;
+  makes = λ u m. active_puts j u m ∙ (ap (λ b. cond b (Some (row.Active u m)) None) (sym (is_handed-same j s u m other)) ∙ sym (active_puts (j ++ s ∷ []) u m));
+}
+
 -- ---- all tables
 
 -- the puts of a journal's rows, table by table
-table_puts : (j : List Stamped) → map Put (listed_rows j) ≡ map Put (user_rows_from j 1 (people j)) ++ (map Put (message_rows_from 1 (messages j)) ++ (map Put (map notice_row (all_kept j)) ++ map Put (outbox_rows_from 1 (outbox j))))
+table_puts : (j : List Stamped) → map Put (listed_rows j)
+    ≡ map Put (user_rows_from j 1 (people j)) ++ (map Put (message_rows_from 1 (messages j)) ++ (map Put (map notice_row (all_kept j)) ++ (map Put (map active_row (active_keys j)) ++ map Put (outbox_rows_from 1 (outbox j)))))
 table_puts j =
-    let us = user_rows_from j 1 (people j) in let ms = message_rows_from 1 (messages j) in let ps = map notice_row (all_kept j) in let os = outbox_rows_from 1 (outbox j) in
-    ap (λ rs. map Put (us ++ (ms ++ (rs ++ os)))) (pending_rows-kept j)
-    ∙ (puts_append us (ms ++ (ps ++ os)) ∙ ap (λ cs. map Put us ++ cs) (puts_append ms (ps ++ os) ∙ ap (λ cs. map Put ms ++ cs) (puts_append ps os)))
+    let us = user_rows_from j 1 (people j) in let ms = message_rows_from 1 (messages j) in let ps = map notice_row (all_kept j) in let qs = map active_row (active_keys j) in let os = outbox_rows_from 1 (outbox j) in
+    (λ i. map Put (us ++ (ms ++ (pending_rows-kept j i ++ (active_rows-keys j i ++ os)))))
+    ∙ (puts_append us (ms ++ (ps ++ (qs ++ os)))
+    ∙ ap (λ cs. map Put us ++ cs) (puts_append ms (ps ++ (qs ++ os))
+    ∙ ap (λ cs. map Put ms ++ cs) (puts_append ps (qs ++ os)
+    ∙ ap (λ cs. map Put ps ++ cs) (puts_append qs os))))
 
-tables_are : (j : List Stamped) → AreTables (map Put (user_rows_from j 1 (people j))) (map Put (message_rows_from 1 (messages j))) (map Put (map notice_row (all_kept j))) (map Put (outbox_rows_from 1 (outbox j)))
+tables_are : (j : List Stamped) → AreTables (map Put (user_rows_from j 1 (people j))) (map Put (message_rows_from 1 (messages j))) (map Put (map notice_row (all_kept j))) (map Put (map active_row (active_keys j))) (map Put (outbox_rows_from 1 (outbox j)))
 tables_are j = record {
   users = users_are j 1 (people j);
   messages = messages_are 1 (messages j);
   pending = waiting_are (all_kept j);
+  active = active_are (active_keys j);
   outbox = outbox_are 1 (outbox j);
 }
 
-changes_are : (j : List Stamped) (s : Stamped) (pending : List RowChange) → AreOf 2 pending → AreTables (map Put (new_user_rows j s.event)) (map Put (new_message_rows j s)) pending (map Put (new_outbox_rows j s))
-changes_are j s pending are = record {
+changes_are : (j : List Stamped) (s : Stamped) (pending active : List RowChange) → AreOf 2 pending → AreOf 3 active → AreTables (map Put (new_user_rows j s.event)) (map Put (new_message_rows j s)) pending active (map Put (new_outbox_rows j s))
+changes_are j s pending active are are_active = record {
   users = new_users_are j s.event;
   messages = new_messages_are j s;
   pending = are;
+  active = are_active;
   outbox = outbox_are (length (outbox j) + 1) (entries_by j s.at s.event);
 }
 
+-- of the puts of a journal's rows those of a key's table
+abbrev own_puts : RowKey → List Stamped → List RowChange
+own_puts k j = own k (map Put (user_rows_from j 1 (people j))) (map Put (message_rows_from 1 (messages j))) (map Put (map notice_row (all_kept j))) (map Put (map active_row (active_keys j))) (map Put (outbox_rows_from 1 (outbox j)))
+
 -- what stands at a key in the rows of a journal
-row_at-rows : (k : RowKey) (j : List Stamped) → row_at k (rows j) ≡ row_after_all k (own k (map Put (user_rows_from j 1 (people j))) (map Put (message_rows_from 1 (messages j))) (map Put (map notice_row (all_kept j))) (map Put (outbox_rows_from 1 (outbox j)))) None
+pub row_at-rows : (k : RowKey) (j : List Stamped) → row_at k (rows j) ≡ row_after_all k (own_puts k j) None
 row_at-rows k j =
     ap (row_at k) (rows-changed_all j)
     ∙ (row_at-changed_all k (map Put (listed_rows j)) []
     ∙ (ap (λ cs. row_after_all k cs None) (table_puts j)
-    ∙ own_changes k (map Put (user_rows_from j 1 (people j))) (map Put (message_rows_from 1 (messages j))) (map Put (map notice_row (all_kept j))) (map Put (outbox_rows_from 1 (outbox j))) None (tables_are j)))
+    ∙ own_changes k (map Put (user_rows_from j 1 (people j))) (map Put (message_rows_from 1 (messages j))) (map Put (map notice_row (all_kept j))) (map Put (map active_row (active_keys j))) (map Put (outbox_rows_from 1 (outbox j))) None (tables_are j)))
 
 -- at a key the new rows are the old with the changes of its own table
-own_after : (k : RowKey) (j : List Stamped) (s : Stamped) (pending : List RowChange) → MakesPending j s pending
-    → row_after_all k (own k (map Put (new_user_rows j s.event)) (map Put (new_message_rows j s)) pending (map Put (new_outbox_rows j s))) (row_after_all k (own k (map Put (user_rows_from j 1 (people j))) (map Put (message_rows_from 1 (messages j))) (map Put (map notice_row (all_kept j))) (map Put (outbox_rows_from 1 (outbox j)))) None)
-    ≡ row_after_all k (own k (map Put (user_rows_from (j ++ s ∷ []) 1 (people (j ++ s ∷ [])))) (map Put (message_rows_from 1 (messages (j ++ s ∷ [])))) (map Put (map notice_row (all_kept (j ++ s ∷ [])))) (map Put (outbox_rows_from 1 (outbox (j ++ s ∷ []))))) None
-own_after (key.User u) j s pending makes = sym (users-after u j s s.event refl)
-own_after (key.Message m) j s pending makes =
+own_after : (k : RowKey) (j : List Stamped) (s : Stamped) (pending active : List RowChange) → MakesPending j s pending → MakesActive j s active
+    → row_after_all k (own k (map Put (new_user_rows j s.event)) (map Put (new_message_rows j s)) pending active (map Put (new_outbox_rows j s))) (row_after_all k (own_puts k j) None) ≡ row_after_all k (own_puts k (j ++ s ∷ [])) None
+own_after (key.User u) j s pending active makes makes_active = sym (users-after u j s s.event refl)
+own_after (key.Message m) j s pending active makes makes_active =
     sym (ap (λ rs. row_after_all (key.Message m) rs None) (ap (map Put) (messages_after j s) ∙ puts_append (message_rows_from 1 (messages j)) (new_message_rows j s))
     ∙ row_after_all-append (key.Message m) (map Put (message_rows_from 1 (messages j))) (map Put (new_message_rows j s)) None)
-own_after (key.Pending u m w) j s pending makes = makes.makes (key.Pending u m w)
-own_after (key.Outbox n) j s pending makes =
+own_after (key.Pending u m w) j s pending active makes makes_active = makes.makes (key.Pending u m w)
+own_after (key.Active u m) j s pending active makes makes_active = makes_active.makes u m
+own_after (key.Outbox n) j s pending active makes makes_active =
     sym (ap (λ rs. row_after_all (key.Outbox n) rs None) (ap (map Put) (outbox_after j s) ∙ puts_append (outbox_rows_from 1 (outbox j)) (new_outbox_rows j s))
     ∙ row_after_all-append (key.Outbox n) (map Put (outbox_rows_from 1 (outbox j))) (map Put (new_outbox_rows j s)) None)
 
 -- the rows after an event are the rows before it with its changes
-pub rows-append : (j : List Stamped) (s : Stamped) (pending : List RowChange) → MakesPending j s pending → changed_all (changes_with j s pending) (rows j) ≡ rows (j ++ s ∷ [])
-rows-append j s pending makes =
-    changed_all-same (changes_with j s pending) (rows j) (rows (j ++ s ∷ [])) (rows-ascending j) (rows-ascending (j ++ s ∷ [])) (λ k.
-    ap (row_after_all k (changes_with j s pending)) (row_at-rows k j)
-    ∙ (own_changes k (map Put (new_user_rows j s.event)) (map Put (new_message_rows j s)) pending (map Put (new_outbox_rows j s)) (row_after_all k (own k (map Put (user_rows_from j 1 (people j))) (map Put (message_rows_from 1 (messages j))) (map Put (map notice_row (all_kept j))) (map Put (outbox_rows_from 1 (outbox j)))) None) (changes_are j s pending makes.are)
-    ∙ (own_after k j s pending makes ∙ sym (row_at-rows k (j ++ s ∷ [])))))
+pub rows-append : (j : List Stamped) (s : Stamped) (pending active : List RowChange) → MakesPending j s pending → MakesActive j s active → changed_all (changes_with j s pending active) (rows j) ≡ rows (j ++ s ∷ [])
+rows-append j s pending active makes makes_active =
+    changed_all-same (changes_with j s pending active) (rows j) (rows (j ++ s ∷ [])) (rows-ascending j) (rows-ascending (j ++ s ∷ [])) (λ k.
+    ap (row_after_all k (changes_with j s pending active)) (row_at-rows k j)
+    ∙ (own_changes k (map Put (new_user_rows j s.event)) (map Put (new_message_rows j s)) pending active (map Put (new_outbox_rows j s)) (row_after_all k (own_puts k j) None) (changes_are j s pending active makes.are makes_active.are)
+    ∙ (own_after k j s pending active makes makes_active ∙ sym (row_at-rows k (j ++ s ∷ [])))))
+
+-- puts of all that has a row, table by table, with these active pushes, make the rows
+pub rows-made : (j : List Stamped) (qs : List PushKey) → ((u : UserId) (m : MessageId) → has_push qs u m ≡ is_handed (account j u m Push))
+    → changed_all (map Put (user_rows_from j 1 (people j)) ++ (map Put (message_rows_from 1 (messages j)) ++ (map Put (map notice_row (all_kept j)) ++ (map Put (map active_row qs) ++ map Put (outbox_rows_from 1 (outbox j)))))) [] ≡ rows j
+rows-made j qs same =
+    let us = map Put (user_rows_from j 1 (people j)) in let ms = map Put (message_rows_from 1 (messages j)) in let ps = map Put (map notice_row (all_kept j)) in let os = map Put (outbox_rows_from 1 (outbox j)) in
+    changed_all-same (us ++ (ms ++ (ps ++ (map Put (map active_row qs) ++ os)))) [] (rows j) IsAscending-nil (rows-ascending j) (λ k.
+    own_changes k us ms ps (map Put (map active_row qs)) os None (record { users = users_are j 1 (people j); messages = messages_are 1 (messages j); pending = waiting_are (all_kept j); active = active_are qs; outbox = outbox_are 1 (outbox j) })
+    ∙ (by k ∙ sym (row_at-rows k j)))
+  where
+    by : (k : RowKey) → row_after_all k (own k (map Put (user_rows_from j 1 (people j))) (map Put (message_rows_from 1 (messages j))) (map Put (map notice_row (all_kept j))) (map Put (map active_row qs)) (map Put (outbox_rows_from 1 (outbox j)))) None ≡ row_after_all k (own_puts k j) None
+    by (key.User u) = refl
+    by (key.Message m) = refl
+    by (key.Pending u m w) = refl
+    by (key.Active u m) = puts_have u m qs None ∙ (ap (λ b. cond b (Some (row.Active u m)) None) (same u m) ∙ sym (active_puts j u m))
+    by (key.Outbox n) = refl
 
 -- the empty journal has no rows
 pub rows-nil : rows [] ≡ []
@@ -263,9 +331,9 @@ rows-nil = ap by_key (none_yet)
   where
     none_yet : listed_rows [] ≡ []
     none_yet =
-        ap (λ us. us ++ (message_rows_from 1 (messages []) ++ (filter_map (pending_row []) (notices []) ++ outbox_rows_from 1 (outbox [])))) (ap (user_rows_from [] 1) people-nil)
-        ∙ (ap (λ ms. ms ++ (filter_map (pending_row []) (notices []) ++ outbox_rows_from 1 (outbox []))) (ap (message_rows_from 1) messages-nil)
-        ∙ (ap (λ ns. filter_map (pending_row []) ns ++ outbox_rows_from 1 (outbox [])) notices-nil ∙ ap (outbox_rows_from 1) outbox-nil))
+        ap (λ us. us ++ (message_rows_from 1 (messages []) ++ (filter_map (pending_row []) (notices []) ++ (filter_map (ledger.active_row []) (notices []) ++ outbox_rows_from 1 (outbox []))))) (ap (user_rows_from [] 1) people-nil)
+        ∙ (ap (λ ms. ms ++ (filter_map (pending_row []) (notices []) ++ (filter_map (ledger.active_row []) (notices []) ++ outbox_rows_from 1 (outbox [])))) (ap (message_rows_from 1) messages-nil)
+        ∙ (ap (λ ns. filter_map (pending_row []) ns ++ (filter_map (ledger.active_row []) ns ++ outbox_rows_from 1 (outbox []))) notices-nil ∙ ap (outbox_rows_from 1) outbox-nil))
 
 -- the rows after a lawful event are the rows before it with what was prepared for it
 pub changes-kept : (j : List Stamped) (s : Stamped) (p : Prepared) → is_lawful_after j s ≡ true → IsPreparedFor j s p → changed_all (changes_of p) (any.rows j) ≡ any.rows (j ++ s ∷ [])

@@ -22,7 +22,7 @@ use Rattle.notice_ledger.proofs.Lists.{AllByRecursion-weaker, filter-filter, fil
 use Rattle.chat_model.specs.declared.row.Stage.{Stage}
 use Rattle.chat_model.specs.declared.row.Stage.TheVariants.{Flight, Held, Ready}
 use Rattle.book_tables.specs.declared.tables.Waiting.{Waiting}
-use Rattle.book_tables.specs.Notices.{rank, is_ready, is_ready_mail_to, is_before, is_at, is_undecided, is_undecided_at, is_batch_row, is_one_batch_row, is_named, named_by, ready_if, readied_if, Precedes, IsInOrder, AreNumbered, NonePasses, IsOnly, IsStretchOf}
+use Rattle.book_tables.specs.Notices.{rank, is_ready, is_ready_mail_to, is_before, is_at, is_undecided, is_undecided_at, is_ready_of, is_batch_row, is_one_batch_row, is_named, named_by, ready_if, readied_if, Precedes, IsInOrder, AreNumbered, NonePasses, IsOnly, IsStretchOf}
 use Rattle.book_tables.specs.Batched.{messages_to}
 
 -- ---- the order of deals, users and ways
@@ -468,9 +468,11 @@ given-more f u deals k =
 
 -- ---- batch rows
 
--- where a message is one above its deal, a batch row of the message is the notice of the deal, once it is ready
-row-at : (k : DealNo) (u : UserId) (m : MessageId) (w : Waiting) → m.0 ≡ k.0 + 1 → w.message.0 ≡ w.deal.0 + 1 → (is_at k u Mail w && is_ready w) ≡ is_batch_row u m w
-row-at k u m w next numbered = by (w.deal.0 == k.0) (w.user.0 == u.0 && rank w.way == 0) (is_ready w) ∙ ap (λ b. is_ready_mail_to u w && b) (same w.deal.0 w.message.0 k.0 m.0 next numbered)
+-- where a message is one above its deal, a ready notice of the message is the notice of the deal, once it is ready
+row-at : (k : DealNo) (u : UserId) (m : MessageId) (way : Way) (w : Waiting) → m.0 ≡ k.0 + 1 → w.message.0 ≡ w.deal.0 + 1 → (is_at k u way w && is_ready w) ≡ is_ready_of u m way w
+row-at k u m way w next numbered =
+    by (w.deal.0 == k.0) (w.user.0 == u.0 && rank w.way == rank way) (is_ready w)
+    ∙ ap (λ b. ((w.user.0 == u.0 && rank w.way == rank way) && is_ready w) && b) (same w.deal.0 w.message.0 k.0 m.0 next numbered)
   where
     by : (a b c : Bool) → ((a && b) && c) ≡ ((b && c) && a)
     by true true true = refl
@@ -483,15 +485,8 @@ row-at k u m w next numbered = by (w.deal.0 == k.0) (w.user.0 == u.0 && rank w.w
     same : (d n k m : ℕ) → m ≡ k + 1 → n ≡ d + 1 → (d == k) ≡ (n == m)
     same d n k m e f = grind (arith, nat_tests)
 
-pub rows-at : (k : DealNo) (u : UserId) (m : MessageId) (ws : List Waiting) → m.0 ≡ k.0 + 1 → AreNumbered ws → AllByRecursion (λ w. (is_at k u Mail w && is_ready w) ≡ is_batch_row u m w) ws
-rows-at k u m ws next numbered = AllByRecursion-weaker (λ w. w.message.0 ≡ w.deal.0 + 1) (λ w. (is_at k u Mail w && is_ready w) ≡ is_batch_row u m w) (λ w h. row-at k u m w next h) ws numbered
-
--- no message has the number 0
-pub no-row : (u : UserId) (m : MessageId) (ws : List Waiting) → m.0 ≡ 0 → AreNumbered ws → NonePasses (is_batch_row u m) ws
-no-row u m ws none numbered = AllByRecursion-weaker (λ w. w.message.0 ≡ w.deal.0 + 1) (λ w. is_batch_row u m w ≡ false) (λ w h. and-right (is_ready_mail_to u w) (w.message.0 == m.0) (apart w.message.0 w.deal.0 m.0 h none)) ws numbered
-  where
-    apart : (n d m : ℕ) → n ≡ d + 1 → m ≡ 0 → (n == m) ≡ false
-    apart n d m e f = grind (arith, nat_tests)
+pub rows-at : (k : DealNo) (u : UserId) (m : MessageId) (way : Way) (ws : List Waiting) → m.0 ≡ k.0 + 1 → AreNumbered ws → AllByRecursion (λ w. (is_at k u way w && is_ready w) ≡ is_ready_of u m way w) ws
+rows-at k u m way ws next numbered = AllByRecursion-weaker (λ w. w.message.0 ≡ w.deal.0 + 1) (λ w. (is_at k u way w && is_ready w) ≡ is_ready_of u m way w) (λ w h. row-at k u m way w next h) ws numbered
 
 -- one more message is taken out
 pub take-next : (u : UserId) (ms : List MessageId) (m : MessageId) (ws : List Waiting)

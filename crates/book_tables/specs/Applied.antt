@@ -1,26 +1,32 @@
 -- What an effect leaves in the tables.
-use Rattle.std.specs.Prelude.{◌≡◌, ℕ, ◌+◌, ◌-◌, ◌^◌, Bool, not, ◌&&◌, List, [], ◌∷◌, ◌++◌, length, filter, map, min, if◌then◌else◌}
+use Rattle.std.specs.Prelude.{◌≡◌, ◌≢◌, ℕ, ◌+◌, ◌-◌, ◌^◌, ◌≤◌, Bool, not, ◌&&◌, List, [], ◌∷◌, ◌++◌, Option, Some, None, length, filter, map, drop, min, option_to_list, if◌then◌else◌}
 use Rattle.chat_model.specs.declared.entry.Entry.{Entry}
 use Rattle.chat_model.specs.declared.deal.Deal.{Deal}
 use Rattle.chat_model.specs.declared.ids.DealNo.{DealNo}
+use Rattle.chat_model.specs.declared.ids.MessageId.{MessageId}
 use Rattle.chat_model.specs.declared.ids.UserId.{UserId}
 use Rattle.chat_model.specs.declared.mentions.UserName.{UserName}
 use Rattle.chat_model.specs.declared.mentions.GroupName.{GroupName}
+use Rattle.chat_model.specs.declared.push_item.PushItem.{PushItem}
+use Rattle.chat_model.specs.declared.trigger.Way.TheVariants as way
+use Rattle.notice_ledger.specs.Limits.{longest_period}
+use Rattle.book_tables.specs.declared.pushes.PushKey.{PushKey}
 use Rattle.book_tables.specs.declared.tables.Message.{Message}
 use Rattle.book_tables.specs.declared.tables.Waiting.{Waiting}
 use Rattle.book_tables.specs.declared.tables.Tables.{Tables}
 use Rattle.book_tables.specs.declared.prepared.Effect.{Effect}
 use Rattle.book_tables.specs.declared.prepared.Effect.TheVariants as effect
 use Rattle.book_tables.specs.UserSets.{users_in, users_after, changed_numbered}
-use Rattle.book_tables.specs.Notices.{is_ready_mail_to, is_undecided, is_named, of_deal, readied, readied_if, dealt_to, IsInOrder}
+use Rattle.book_tables.specs.Notices.{is_ready_mail_to, is_ready_of, is_undecided, is_named, of_deal, readied, readied_if, dealt_to, IsInOrder}
 use Rattle.book_tables.specs.declared.preferences.Preference.{Preference}
-use Rattle.book_tables.specs.Preferences.{Preferred, preferred, default_preferred, preferred_after}
+use Rattle.book_tables.specs.Preferences.{Preferred, preferred, preferred_in, default_preferred, preferred_after}
+use Rattle.book_tables.specs.Pushes.{item_of}
 use Rattle.mail_batches.specs.Batches.{shifted, settled}
 use Rattle.book_tables.specs.Batched.{BatchesAfter, period_in, WithNotices}
 
 -- the number of starts after an effect
 abbrev pub starts_after : Effect → ℕ → ℕ
-starts_after effect.Start starts = min (starts + 1) (2 ^ 64 - 1)
+starts_after (effect.Start pushes) starts = min (starts + 1) (2 ^ 64 - 1)
 starts_after _ starts = starts
 
 -- the named users after an effect
@@ -72,13 +78,27 @@ is_cleared user deals w = is_named user deals w && is_undecided w
 
 -- the notices that wait after an effect
 abbrev pub waiting_after : Effect → List Waiting → List Waiting
-waiting_after effect.Start waiting = map readied waiting
+waiting_after (effect.Start pushes) waiting = map readied waiting
 waiting_after (effect.Message message new deal) waiting = waiting ++ new.items
-waiting_after (effect.Dealt deal idle live) waiting = map (λ w. if of_deal deal w then dealt_to (users_in idle) (users_in live) w else w) waiting
+waiting_after (effect.Dealt deal idle live pushes) waiting = map (λ w. if of_deal deal w then dealt_to (users_in idle) (users_in live) w else w) waiting
 waiting_after (effect.Cleared user deals) waiting = filter (λ w. not (is_cleared user deals w)) waiting
-waiting_after (effect.Missed user deals) waiting = map (λ w. readied_if (is_named user deals w) w) waiting
+waiting_after (effect.Missed user deals pushes) waiting = map (λ w. readied_if (is_named user deals w) w) waiting
 waiting_after (effect.Mailed user entries handed off) waiting = filter (λ w. not (is_ready_mail_to user w)) waiting
+waiting_after (effect.Pushed user message entry) waiting = filter (λ w. not (is_ready_of user message way.Push w)) waiting
 waiting_after _ waiting = waiting
+
+-- the push items that wait after an effect
+abbrev pub items_after : Effect → List PushItem → List PushItem
+items_after (effect.Start pushes) items = items ++ map item_of pushes.items
+items_after (effect.Dealt deal idle live pushes) items = items ++ map item_of pushes.items
+items_after (effect.Missed user deals pushes) items = items ++ map item_of pushes.items
+items_after (effect.Pushed user message entry) items = drop 1 items
+items_after _ items = items
+
+-- the active pushes after an effect
+abbrev pub active_after : Effect → List PushKey → List PushKey
+active_after (effect.Pushed user message (Some entry)) active = active ++ record { user = user; message = message } ∷ []
+active_after _ active = active
 
 -- how many notices a live queue cleared after an effect
 abbrev pub live_after : Effect → List Waiting → ℕ → ℕ
@@ -93,17 +113,26 @@ deals_after _ deals = deals
 -- the outbox after an effect
 abbrev pub outbox_after : Effect → List Entry → List Entry
 outbox_after (effect.Mailed user entries handed off) outbox = outbox ++ entries.items
+outbox_after (effect.Pushed user message entry) outbox = outbox ++ option_to_list entry
 outbox_after _ outbox = outbox
 
 -- how many notices were handed over after an effect
 abbrev pub handed_after : Effect → ℕ → ℕ
 handed_after (effect.Mailed user entries handed off) before = min (before + handed) (2 ^ 64 - 1)
+handed_after (effect.Pushed user message (Some entry)) before = min (before + 1) (2 ^ 64 - 1)
 handed_after _ before = before
 
 -- how many notices were switched off after an effect
 abbrev pub off_after : Effect → ℕ → ℕ
 off_after (effect.Mailed user entries handed off) before = min (before + off) (2 ^ 64 - 1)
+off_after (effect.Pushed user message None) before = min (before + 1) (2 ^ 64 - 1)
 off_after _ before = before
+
+-- after a change of what a user prefers the period isn't above the longest, and a push turn takes an item that waits
+abbrev pub Fits : Tables → Effect → Type 0
+Fits t (effect.Preference user change) = (preferred_after change (preferred_in t.preferences.items user.0)).settings.period ≤ longest_period
+Fits t (effect.Pushed user message entry) = t.pushes.items ≢ []
+Fits t _ = Unit {0}
 
 -- the tables after an effect at a stamp, the last stamp aside; they held what events leave
 pub record IsApplied (old new : Tables) (at : ℕ) (e : Effect) : Type 0 where
@@ -118,6 +147,8 @@ pub record IsApplied (old new : Tables) (at : ℕ) (e : Effect) : Type 0 where
   pub messages : new.messages.items ≡ messages_after e old.messages.items
   pub waiting : new.waiting.items ≡ waiting_after e old.waiting.items
   pub batches : BatchesAfter (period_in old.preferences.items) (period_in new.preferences.items) new.waiting.items at e old.batches new.batches
+  pub items : new.pushes.items ≡ items_after e old.pushes.items
+  pub active : new.active.items ≡ active_after e old.active.items
   pub deals : new.deals.items ≡ deals_after e old.deals.items
   pub outbox : new.outbox.items ≡ outbox_after e old.outbox.items
   pub handed : new.handed ≡ handed_after e old.handed
@@ -142,6 +173,16 @@ pub record IsSettled (old new : Tables) (user : UserId) : Type 0 where
   pub waiting : new.waiting.items ≡ filter (λ w. not (is_ready_mail_to user w)) old.waiting.items
   pub batches : new.batches ≡ settled old.batches user
 
+-- the tables after the turn of the item that waited longest
+pub record HadTurn (old new : Tables) (user : UserId) (message : MessageId) (entry : Option Entry) : Type 0 where
+  pub rest : new ≡ record old { waiting = new.waiting; pushes = new.pushes; active = new.active; outbox = new.outbox; handed = new.handed; off = new.off }
+  pub waiting : new.waiting.items ≡ waiting_after (effect.Pushed user message entry) old.waiting.items
+  pub items : new.pushes.items ≡ drop 1 old.pushes.items
+  pub active : new.active.items ≡ active_after (effect.Pushed user message entry) old.active.items
+  pub outbox : new.outbox.items ≡ old.outbox.items ++ option_to_list entry
+  pub handed : new.handed ≡ handed_after (effect.Pushed user message entry) old.handed
+  pub off : new.off ≡ off_after (effect.Pushed user message entry) old.off
+
 -- the tables hold the same
 pub record HoldTheSame (old new : Tables) : Type 0 where
   pub last : new.last ≡ old.last
@@ -156,6 +197,8 @@ pub record HoldTheSame (old new : Tables) : Type 0 where
   pub messages : new.messages.items ≡ old.messages.items
   pub waiting : new.waiting.items ≡ old.waiting.items
   pub batches : new.batches.batches ≡ old.batches.batches
+  pub items : new.pushes.items ≡ old.pushes.items
+  pub active : new.active.items ≡ old.active.items
   pub deals : new.deals.items ≡ old.deals.items
   pub outbox : new.outbox.items ≡ old.outbox.items
   pub handed : new.handed ≡ old.handed

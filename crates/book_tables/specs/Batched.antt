@@ -11,7 +11,7 @@ use Rattle.book_tables.specs.declared.prepared.Effect.TheVariants as effect
 use Rattle.book_tables.specs.declared.tables.Tables.{Tables}
 use Rattle.book_tables.specs.declared.tables.Waiting.{Waiting}
 use Rattle.book_tables.specs.Notices.{is_ready_mail_to, IsInOrder, AreNumbered}
-use Rattle.book_tables.specs.Preferences.{preferred_in, preferred_after}
+use Rattle.book_tables.specs.Preferences.{preferred_in}
 
 -- the messages of a user's mails that are ready
 abbrev pub messages_to : UserId → List Waiting → List MessageId
@@ -55,14 +55,9 @@ pub record AreReadied (period : UserId → ℕ) (at : ℕ) (ws : List Waiting) (
 
 -- the batches after an effect at a stamp, with the periods before and after it and the notices after it
 abbrev pub BatchesAfter : (UserId → ℕ) → (UserId → ℕ) → List Waiting → ℕ → Effect → Batches → Batches → Type 0
-BatchesAfter before after ws at effect.Start old new = AreReadied before at ws old new
-BatchesAfter before after ws at (effect.Dealt deal idle live) old new = AreReadied before at ws old new
-BatchesAfter before after ws at (effect.Missed user deals) old new = AreReadied before at ws old new
+BatchesAfter before after ws at (effect.Start pushes) old new = AreReadied before at ws old new
+BatchesAfter before after ws at (effect.Dealt deal idle live pushes) old new = AreReadied before at ws old new
+BatchesAfter before after ws at (effect.Missed user deals pushes) old new = AreReadied before at ws old new
 BatchesAfter before after ws at (effect.Preference user change) old new = new ≡ shifted old user (before user) (after user)
 BatchesAfter before after ws at (effect.Mailed user entries handed off) old new = new ≡ settled old user
 BatchesAfter before after ws at _ old new = new ≡ old
-
--- after a change of what a user prefers the period isn't above the longest
-abbrev pub FitsPeriod : Tables → Effect → Type 0
-FitsPeriod t (effect.Preference user change) = (preferred_after change (preferred_in t.preferences.items user.0)).settings.period ≤ longest_period
-FitsPeriod t _ = Unit {0}

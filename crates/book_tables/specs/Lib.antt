@@ -2,6 +2,7 @@ pub mod UserSets
 pub mod TopicKeys
 pub mod Preferences
 pub mod Notices
+pub mod Pushes
 pub mod Tables
 pub mod Gathered
 pub mod Rules

@@ -52,6 +52,10 @@ is_ready_mail_to u w = is_mail_to u w && is_ready w
 abbrev pub is_undecided_mail : Waiting → Bool
 is_undecided_mail w = rank w.way == 0 && is_undecided w
 
+-- a push, and undecided
+abbrev pub is_undecided_push : Waiting → Bool
+is_undecided_push w = rank w.way == 1 && is_undecided w
+
 -- ---- which one
 
 -- a notice of the deal
@@ -68,9 +72,13 @@ is_undecided_at k u way w = is_at k u way w && is_undecided w
 abbrev pub is_undecided_of : DealNo → Waiting → Bool
 is_undecided_of k w = of_deal k w && is_undecided w
 
+-- the user's notice of a message by a way, and ready
+abbrev pub is_ready_of : UserId → MessageId → Way → Waiting → Bool
+is_ready_of u m way w = ((w.user.0 == u.0 && rank w.way == rank way) && is_ready w) && w.message.0 == m.0
+
 -- the user's batch row of a message
 abbrev pub is_batch_row : UserId → MessageId → Waiting → Bool
-is_batch_row u m w = is_ready_mail_to u w && w.message.0 == m.0
+is_batch_row u m w = is_ready_of u m Mail w
 
 -- and of one of these messages
 abbrev pub is_one_batch_row : UserId → List MessageId → Waiting → Bool

@@ -1,12 +1,14 @@
 -- What is prepared for an event: the changes of the rows, and the effect on the tables.
-use Rattle.std.specs.Prelude.{◌≡◌, ◌+◌, ℕ, Bool, true, List, [], ◌∷◌, ◌++◌, length, map, filter}
+use Rattle.std.specs.Prelude.{◌≡◌, ◌+◌, ℕ, Bool, true, false, Option, Some, None, List, [], ◌∷◌, ◌++◌, length, map, filter, option_to_list}
 use Rattle.chat_model.specs.declared.event.Stamped.{Stamped}
 use Rattle.chat_model.specs.declared.event.Event.{Event}
-use Rattle.chat_model.specs.declared.event.Event.TheVariants.{Restart, Asked, Absorbed, MailTurn}
+use Rattle.chat_model.specs.declared.event.Event.TheVariants.{Restart, Asked, Absorbed, MailTurn, PushTurn}
 use Rattle.chat_model.specs.declared.request.Request.TheVariants.{AddUser, AddGroup, Member, AddChannel, Subscribe, Set, SetChannel, SetPolicy, Mute, Send, Direct}
 use Rattle.chat_model.specs.declared.ids.UserId.{UserId}
 use Rattle.chat_model.specs.declared.ids.MessageId.{MessageId}
 use Rattle.chat_model.specs.declared.mentions.GroupName.{GroupName}
+use Rattle.chat_model.specs.declared.push_item.PushItem.{PushItem}
+use Rattle.chat_model.specs.declared.push_item.PushItem.TheVariants as item
 use Rattle.chat_model.specs.declared.row.Row.{Row}
 use Rattle.chat_model.specs.declared.row.Row.TheVariants as row
 use Rattle.chat_model.specs.declared.row.RowKey.{RowKey}
@@ -25,15 +27,18 @@ use Rattle.notice_ledger.specs.Past.Journal.{occurrence}
 use Rattle.notice_ledger.specs.Past.Values.{people, groups, is_one_of}
 use Rattle.notice_ledger.specs.Past.Owed.{owed_by}
 use Rattle.notice_ledger.specs.Past.Deals.{deal_of}
-use Rattle.notice_ledger.specs.Past.Outbox.{mail_items, mail_entries}
+use Rattle.notice_ledger.specs.Past.Outbox.{mail_items, mail_entries, push_entries}
+use Rattle.notice_ledger.specs.Past.Pushes.{items_by}
 use Rattle.notice_ledger.specs.Past.Rows.{rows}
 use Rattle.notice_ledger.specs.Lawful.{lawful, is_lawful_after}
+use Rattle.book_tables.specs.declared.pushes.PushKey.{PushKey}
 use Rattle.book_tables.specs.declared.tables.Message.{Message}
 use Rattle.book_tables.specs.declared.tables.Waiting.{Waiting}
 use Rattle.book_tables.specs.declared.tables.Tables.{Tables}
 use Rattle.book_tables.specs.declared.prepared.Effect.{Effect}
 use Rattle.book_tables.specs.declared.prepared.Effect.TheVariants as effect
 use Rattle.book_tables.specs.declared.prepared.Prepared.{Prepared}
+use Rattle.book_tables.specs.Pushes.{item_of}
 use Rattle.book_tables.specs.UserSets.{users_in}
 use Rattle.notice_ledger.specs.declared.destination.Destination.{Destination}
 use Rattle.notice_ledger.specs.declared.destination.Destination.TheVariants as destination
@@ -47,6 +52,15 @@ notice_row w = row.Pending w.user w.message w.way w.trigger w.deal w.stage
 -- the key of a notice's row
 abbrev pub key_of_notice : Waiting → RowKey
 key_of_notice w = key.Pending w.user w.message w.way
+
+-- the row of an active push
+abbrev pub active_row : PushKey → Row
+active_row p = row.Active p.user p.message
+
+-- the rows that the turn of a push adds behind so many entries, where it has this entry: none where it isn't handed over
+abbrev pub turn_rows : PushKey → ℕ → Option Entry → List RowChange
+turn_rows p n None = []
+turn_rows p n (Some e) = Put (active_row p) ∷ Put (row.Outbox (record { 0 = n + 1 }) e false) ∷ []
 
 -- the rows of the notices that pass a test, as they become
 abbrev pub puts_where : (Waiting → Bool) → (Waiting → Waiting) → List Waiting → List RowChange
@@ -66,11 +80,22 @@ abbrev pub IsMessage : Effect → Message → List Waiting → Deal → Type 0
 IsMessage (effect.Message message waiting deal) m ws d = (message ≡ m) × (waiting.items ≡ ws) × (deal ≡ d)
 IsMessage _ m ws d = ⊥
 
--- the effect deals this deal with these verdicts
-abbrev pub IsDealt : Effect → DealNo → List UserVerdict → Type 0
-IsDealt (effect.Dealt deal idle live) k verdicts =
+-- the effect makes all ready, with these items
+abbrev pub IsStart : Effect → List PushItem → Type 0
+IsStart (effect.Start pushes) is = map item_of pushes.items ≡ is
+IsStart _ is = ⊥
+
+-- the effect deals this deal with these verdicts and items
+abbrev pub IsDealt : Effect → DealNo → List UserVerdict → List PushItem → Type 0
+IsDealt (effect.Dealt deal idle live pushes) k verdicts is =
     (deal ≡ k) × ((u : UserId) → is_one_of (users_in idle) u ≡ gives_idle verdicts u) × ((u : UserId) → is_one_of (users_in live) u ≡ gives_live verdicts u)
-IsDealt _ k verdicts = ⊥
+    × (map item_of pushes.items ≡ is)
+IsDealt _ k verdicts is = ⊥
+
+-- the effect makes the user's notices of these deals ready, with these items
+abbrev pub IsMissed : Effect → UserId → List DealNo → List PushItem → Type 0
+IsMissed (effect.Missed user deals pushes) u ks is = (user ≡ u) × (deals ≡ ks) × (map item_of pushes.items ≡ is)
+IsMissed _ u ks is = ⊥
 
 -- the row of a user's mail notice of a message goes
 abbrev pub removed_mail : UserId → MessageId → RowChange
@@ -81,15 +106,24 @@ abbrev pub IsMailed : Effect → UserId → List Entry → ℕ → ℕ → Type 
 IsMailed (effect.Mailed user entries handed off) u es h n = (user ≡ u) × (entries.items ≡ es) × (handed ≡ h) × (off ≡ n)
 IsMailed _ u es h n = ⊥
 
+-- the effect is the turn of the user's push of this message, with these entries
+abbrev pub IsPushed : Effect → UserId → MessageId → List Entry → Type 0
+IsPushed (effect.Pushed user message entry) u m es = (user ≡ u) × (message ≡ m) × (option_to_list entry ≡ es)
+IsPushed _ u m es = ⊥
+
 -- the effect adds the message of a send with what it owes
 abbrev pub IsSendOf : List Stamped → ℕ → UserId → Destination → List ℕ → Effect → Type 0
 IsSendOf past at sender to text e =
     let m : Message = record { sender = sender; to = to; text = text } in
     let o = occurrence past (send_of at m) in IsMessage e m (map in_flight (owed_by o)) (deal_of o)
 
+-- the items that an event makes behind these
+abbrev pub items_made : List Stamped → Stamped → List PushItem
+items_made past s = items_by (past ++ s ∷ []) (occurrence past s)
+
 -- the effect is that of an event at a stamp, behind these
 abbrev pub IsEffectOf : List Stamped → ℕ → Event → Effect → Type 0
-IsEffectOf past at Restart e = e ≡ effect.Start
+IsEffectOf past at Restart e = IsStart e (items_made past (record { at = at; event = Restart }))
 IsEffectOf past at (Asked (AddUser name bot)) e = e ≡ effect.User (record { id = record { 0 = length (people past) + 1 }; name = name }) bot
 IsEffectOf past at (Asked (AddGroup name members)) e = IsGroup e (record { id = record { 0 = length (groups past) + 1 }; name = name }) members
 IsEffectOf past at (Asked (Member group user on)) e = e ≡ effect.Membership group user on
@@ -101,10 +135,12 @@ IsEffectOf past at (Asked (SetPolicy user channel topic policy)) e = e ≡ effec
 IsEffectOf past at (Asked (Mute user other on)) e = e ≡ effect.Preference user (preference.Mute other on)
 IsEffectOf past at (Asked (Send sender channel topic text)) e = IsSendOf past at sender (destination.Channel channel topic) text e
 IsEffectOf past at (Asked (Direct sender to text)) e = IsSendOf past at sender (destination.Direct to) text e
-IsEffectOf past at (Absorbed (Dealt deal verdicts)) e = IsDealt e deal verdicts
+IsEffectOf past at (Absorbed (Dealt deal verdicts)) e = IsDealt e deal verdicts (items_made past (record { at = at; event = Absorbed (Dealt deal verdicts) }))
 IsEffectOf past at (Absorbed (Cleared user deals queue)) e = e ≡ effect.Cleared user deals
-IsEffectOf past at (Absorbed (Missed user deals)) e = e ≡ effect.Missed user deals
+IsEffectOf past at (Absorbed (Missed user deals)) e = IsMissed e user deals (items_made past (record { at = at; event = Absorbed (Missed user deals) }))
 IsEffectOf past at (MailTurn user) e = IsMailed e user (mail_entries past at user) (length (mail_items past user)) (switched_at past user)
+IsEffectOf past at (PushTurn (item.Notify user message)) e = IsPushed e user message (push_entries past at (item.Notify user message))
+IsEffectOf past at (PushTurn (item.Remove user messages)) e = ⊥
 
 -- it was prepared for this event behind these, which all count: its changes make of the rows of these those with the event
 pub record Follows (past : List Stamped) (s : Stamped) (p : Prepared) : Type 0 where

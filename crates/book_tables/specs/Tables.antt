@@ -1,21 +1,28 @@
 -- When the tables stand for a journal.
-use Rattle.std.specs.Prelude.{◌≡◌, ℕ, Bool, true, false, List, [], ◌∷◌, is_some, length, map, IsPermutation, if◌then◌else◌}
+use Rattle.std.specs.Prelude.{◌≡◌, ℕ, Bool, true, false, List, [], ◌∷◌, Some, is_some, option_map, length, map, IsPermutation, if◌then◌else◌}
 use Rattle.std.specs.List.{filter_map}
 use Rattle.chat_model.specs.declared.event.Stamped.{Stamped}
-use Rattle.chat_model.specs.declared.event.Event.TheVariants.{Asked}
+use Rattle.chat_model.specs.declared.event.Event.TheVariants.{Asked, PushTurn}
 use Rattle.chat_model.specs.declared.request.Request.TheVariants.{Send, Direct}
 use Rattle.chat_model.specs.declared.ids.UserId.{UserId}
 use Rattle.chat_model.specs.declared.ids.ChannelId.{ChannelId}
 use Rattle.chat_model.specs.declared.ids.GroupId.{GroupId}
+use Rattle.chat_model.specs.declared.ids.MessageId.{MessageId}
+use Rattle.chat_model.specs.declared.push_item.PushItem.{PushItem}
+use Rattle.chat_model.specs.declared.push_item.PushItem.TheVariants.{Notify}
 use Rattle.chat_model.specs.declared.request.Request.{Request}
 use Rattle.chat_model.specs.declared.row.Cause.TheVariants.{SwitchedOff}
 use Rattle.chat_model.specs.declared.trigger.Way.TheVariants as ways
 use Rattle.notice_ledger.specs.Past.Journal.{last_stamp, occurrence}
 use Rattle.notice_ledger.specs.Past.Values.{SentMessage, people, user_names, groups, group_names, is_member, channels, messages, subscribed}
 use Rattle.notice_ledger.specs.declared.accounts.Account.TheVariants.{Handed, Cancelled, LiveQueue}
+use Rattle.notice_ledger.specs.declared.accounts.Account.TheVariants as accounts
 use Rattle.notice_ledger.specs.declared.destination.Destination.{Destination}
 use Rattle.notice_ledger.specs.declared.destination.Destination.TheVariants as destination
-use Rattle.notice_ledger.specs.Past.Owed.{Notice, notice_of, pushes_online, ready, was_dealt, waiting, switch_on}
+use Rattle.notice_ledger.specs.Owed.{account, notice_to}
+use Rattle.notice_ledger.specs.Pushes.{oldest_item}
+use Rattle.notice_ledger.specs.Past.Owed.{Notice, notice_of, pushes_online, ready, was_dealt, account_of, account as account_behind, is_handed, notice_to as notice_behind, waiting, switch_on}
+use Rattle.notice_ledger.specs.Past.Pushes.{waiting_items}
 use Rattle.notice_ledger.specs.Past.Deals.{deals}
 pub use Rattle.notice_ledger.specs.Past.Runs.{start_count}
 use Rattle.notice_ledger.specs.Past.Due.{DueUser, batch_rows, due}
@@ -24,6 +31,8 @@ use Rattle.notice_ledger.specs.Past.Audit.{in_64_bits, owed_with}
 use Rattle.notice_ledger.specs.Lawful.{lawful}
 use Rattle.mail_batches.specs.Batches.{Waiting as Batches, due_of, rows_of}
 use Rattle.mail_batches.specs.declared.batches.DueUser.{DueUser as FoundDue}
+use Rattle.book_tables.specs.declared.pushes.PushVerdict.{PushVerdict}
+use Rattle.book_tables.specs.declared.pushes.PushVerdict.TheVariants as verdict
 use Rattle.book_tables.specs.declared.tables.Message.{Message}
 use Rattle.chat_model.specs.declared.row.Stage.{Stage}
 use Rattle.chat_model.specs.declared.row.Stage.TheVariants.{Flight, Held, Ready}
@@ -31,6 +40,7 @@ use Rattle.book_tables.specs.declared.tables.Waiting.{Waiting}
 use Rattle.book_tables.specs.declared.tables.Tables.{Tables}
 use Rattle.book_tables.specs.UserSets.{has_in, AreUserSets}
 use Rattle.book_tables.specs.Preferences.{preferred_in, preferred_by}
+use Rattle.book_tables.specs.Pushes.{has_push}
 
 -- a message as the tables keep it
 abbrev pub message_kept : SentMessage → Message
@@ -97,6 +107,8 @@ pub record Holds (t : Tables) (past : List Stamped) : Type 0 where
   pub messages : t.messages.items ≡ map message_kept (messages past)
   pub waiting : t.waiting.items ≡ map (notice_kept past) (waiting past)
   pub batches : HoldBatches t.batches past
+  pub items : t.pushes.items ≡ waiting_items past
+  pub active : (u : UserId) (m : MessageId) → has_push t.active.items u m ≡ is_handed (account_behind past u m ways.Push)
   pub deals : t.deals.items ≡ deals past
   pub outbox : t.outbox.items ≡ outbox past
   pub handed : t.handed ≡ in_64_bits (owed_with past Handed)
@@ -114,3 +126,29 @@ HoldSome t = (past : List Stamped) × Holds t past
 -- what a search for the least due moment found
 abbrev pub found_due : FoundDue → DueUser
 found_due d = record { due = d.due; user = d.user }
+
+-- ---- push turns
+
+-- the push turn of a user's notice of a message at a stamp
+abbrev pub push_turn : ℕ → UserId → MessageId → Stamped
+push_turn at u m = record { at = at; event = PushTurn (Notify u m) }
+
+-- the item waits longest, after a journal for which the tables stand
+abbrev pub IsOldest : Tables → PushItem → Type 0
+IsOldest t i = (j : List Stamped) × (StandsFor t j) × (oldest_item j ≡ Some i)
+
+-- the item of the user's push of this message does
+abbrev pub WaitsLongest : Tables → UserId → MessageId → Type 0
+WaitsLongest t u m = IsOldest t (Notify u m)
+
+-- the user's push of this message is owed behind these, ready, and kept so
+pub record IsReadyPush (past : List Stamped) (u : UserId) (m : MessageId) (w : Waiting) : Type 0 where
+  pub notice : Notice
+  pub owed : notice_behind past u m ways.Push ≡ Some notice
+  pub is_ready : account_of past notice ≡ accounts.Ready
+  pub kept : w ≡ notice_kept past notice
+
+-- the user's push of this message was handed over, and its notice has this trigger; or it was dropped for this cause
+abbrev pub IsVerdict : List Stamped → UserId → MessageId → PushVerdict → Type 0
+IsVerdict j u m (verdict.Hand trigger) = (account j u m ways.Push ≡ Handed) × (option_map (λ n. n.trigger) (notice_to j u m ways.Push) ≡ Some trigger)
+IsVerdict j u m (verdict.Drop cause) = account j u m ways.Push ≡ Cancelled cause

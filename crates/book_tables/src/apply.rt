@@ -1,9 +1,10 @@
 //! How an effect is made in the tables: first the room for it, then the effect, which cannot fail.
-ghost use Rattle.std.specs.Prelude.{◌≡◌, true, List, ◌∷◌, [], ◌++◌, OnOk};
+ghost use Rattle.std.specs.Prelude.{◌≡◌, ◌≢◌, ◌≤◌, true, List, ◌∷◌, [], ◌++◌, length, map, OnOk};
 ghost use Rattle.chat_model.specs.declared.event.Stamped.{Stamped};
 ghost use Rattle.notice_ledger.specs.Lawful.{is_lawful_after};
-ghost use Rattle.book_tables.specs.Batched.{IsSound, FitsPeriod};
-ghost use Rattle.book_tables.specs.Applied.{IsApplied, IsCleared, IsChanged, IsSettled, HoldTheSame};
+ghost use Rattle.book_tables.specs.Batched.{IsSound};
+ghost use Rattle.book_tables.specs.Pushes.{item_of};
+ghost use Rattle.book_tables.specs.Applied.{Fits, IsApplied, IsCleared, IsChanged, IsSettled, HadTurn, HoldTheSame};
 ghost use Rattle.book_tables.specs.Rooms.{HasRoom, HasRoomFor};
 ghost use Rattle.book_tables.specs.Prepared.{IsPreparedFor, WasPrepared};
 
@@ -11,11 +12,12 @@ use crate::preferences::{
     Preference, Preferences, change_preference, period_of, reserve_preference,
 };
 use crate::prepared::{Effect, Prepared};
+use crate::pushes::PushKey;
 use crate::sets::{change_set, reserve_in_set};
 use crate::tables::Tables;
 use crate::user_set::UserSet;
-use crate::waiting::{clear_named, find_deal, take_batch_rows};
-use chat_model::{DealNo, Moment, OutOfMemory, UserId};
+use crate::waiting::{clear_named, find_deal, take_batch_rows, take_ready};
+use chat_model::{DealNo, Entry, MessageId, Moment, OutOfMemory, UserId, Way};
 
 impl Tables {
     ghost use Rattle.book_tables.specs.Tables.{StandsFor};
@@ -26,13 +28,20 @@ impl Tables {
         ensures ok { OnOk result (HasRoom self.new effect.now) }
     {
         match effect {
-            Effect::Start => self.batches.reserve(self.waiting.len()),
-            Effect::Dealt { deal, .. } => {
+            Effect::Start { pushes } => {
+                self.batches.reserve(self.waiting.len())?;
+                self.pushes.reserve(pushes.len(), 0)
+            }
+            Effect::Dealt { deal, pushes, .. } => {
                 let stretch = find_deal(&self.waiting, *deal);
-                self.batches.reserve(stretch.to - stretch.from)
+                self.batches.reserve(stretch.to - stretch.from)?;
+                self.pushes.reserve(pushes.len(), 0)
             }
             Effect::Cleared { .. } => Ok(()),
-            Effect::Missed { deals, .. } => self.batches.reserve(deals.as_slice().len()),
+            Effect::Missed { deals, pushes, .. } => {
+                self.batches.reserve(deals.as_slice().len())?;
+                self.pushes.reserve(pushes.len(), 0)
+            }
             Effect::User { .. } => {
                 self.names.reserve(1)?;
                 self.bots.reserve(1)?;
@@ -68,6 +77,12 @@ impl Tables {
                 self.outbox.reserve(entries.len())?;
                 Ok(())
             }
+            Effect::Pushed { entry: Some(_), .. } => {
+                self.active.reserve(1)?;
+                self.outbox.reserve(1)?;
+                Ok(())
+            }
+            Effect::Pushed { entry: None, .. } => Ok(()),
         }
     }
 
@@ -84,7 +99,7 @@ impl Tables {
     /// Changes what the user prefers. A new period moves the user's due moment by itself less the old one.
     fn change(&mut self, user: UserId, change: Preference)
         requires sound { IsSound self.old }
-        requires period { FitsPeriod self.old (Effect.Preference user change) }
+        requires period { Fits self.old (Effect.Preference user change) }
         requires room { HasRoom self.old (Effect.Preference user change) }
         ensures { IsChanged self.old self.new user change }
     {
@@ -94,6 +109,36 @@ impl Tables {
         change_preference(&mut self.preferences, user.0, change);
         let after = period_of(&self.preferences, user);
         self.batches.shift(user, before, after);
+    }
+
+    /// Adds the items of these pushes.
+    fn add_items(&mut self, pushes: &[PushKey])
+        requires { length pushes.now ≤ self.old.pushes.item_room }
+        ensures rest { self.new ≡ record self.old { pushes = self.new.pushes } }
+        ensures items { self.new.pushes.items ≡ self.old.pushes.items ++ map item_of pushes.now }
+    {
+        for push in pushes {
+            self.pushes.add(push.item());
+        }
+    }
+
+    /// Takes the turn of the item that waits longest, which is that of the user's push of a message.
+    fn take_turn(&mut self, user: UserId, message: MessageId, entry: Option<Entry>)
+        requires sound { IsSound self.old }
+        requires waits { self.old.pushes.items ≢ [] }
+        requires room { HasRoom self.old (Effect.Pushed user message entry) }
+        ensures { HadTurn self.old self.new user message entry }
+    {
+        self.pushes.drop_oldest();
+        take_ready(&mut self.waiting, user, message, Way::Push);
+        match entry {
+            Some(entry) => {
+                self.active.push_reserved(PushKey { user, message });
+                self.outbox.push_reserved(entry);
+                self.handed = self.handed.saturating_add(1);
+            }
+            None => self.off = self.off.saturating_add(1),
+        }
     }
 
     /// Takes the user's batch rows out.
@@ -109,25 +154,37 @@ impl Tables {
     fn make(&mut self, at: Moment, effect: Effect)
         requires room { HasRoom self.old effect }
         requires sound { IsSound self.old }
-        requires period { FitsPeriod self.old effect }
+        requires fits { Fits self.old effect }
         ensures { IsApplied self.old self.new at effect }
     {
         match effect {
-            Effect::Start => {
+            Effect::Start { pushes } => {
                 self.starts = self.starts.saturating_add(1);
                 self.ready_all(at);
+                self.add_items(&pushes);
                 return;
             }
-            Effect::Dealt { deal, idle, live } => {
+            Effect::Dealt {
+                deal,
+                idle,
+                live,
+                pushes,
+            } => {
                 self.deal_out(at, deal, &idle, &live);
+                self.add_items(&pushes);
                 return;
             }
             Effect::Cleared { user, deals } => {
                 self.clear(user, deals.as_slice());
                 return;
             }
-            Effect::Missed { user, deals } => {
+            Effect::Missed {
+                user,
+                deals,
+                pushes,
+            } => {
                 self.ready_named(at, user, deals.as_slice());
+                self.add_items(&pushes);
                 return;
             }
             Effect::User { user, bot } => {
@@ -180,6 +237,14 @@ impl Tables {
                 self.outbox.append(&mut entries).unwrap();
                 self.handed = self.handed.saturating_add(handed);
                 self.off = self.off.saturating_add(off);
+                return;
+            }
+            Effect::Pushed {
+                user,
+                message,
+                entry,
+            } => {
+                self.take_turn(user, message, entry);
                 return;
             }
         }

@@ -2,17 +2,16 @@
 ghost use Rattle.std.specs.Prelude.{◌≡◌, List, length, map, IfOk, IsPermutation};
 ghost use Rattle.chat_model.specs.declared.event.Stamped.{Stamped};
 ghost use Rattle.notice_ledger.specs.Past.Owed.{Notice};
-ghost use Rattle.chat_model.specs.declared.trigger.Way.{Way};
 ghost use Rattle.notice_ledger.specs.Past.Owed.{switch_on};
 ghost use Rattle.notice_ledger.specs.Past.Outbox.{mailed, conversation_of, ready_item, mail_items, mail_entries};
 ghost use Rattle.notice_ledger.specs.Outbox.{dropped};
 ghost use Rattle.book_tables.specs.Tables.{switched_at};
 
 use crate::tables::{Message, Tables, Waiting, item_at};
-use crate::waiting::find_batch_row;
+use crate::waiting::find_ready;
 use chat_model::{
     Conversation, Entry, GroupId, GroupName, Item, List as ItemList, Moment, OutOfMemory, Text,
-    UserId, ascending_users,
+    UserId, Way, ascending_users,
 };
 use mail_batches::{ReadyItem, entries};
 use notice_ledger::Destination;
@@ -54,7 +53,11 @@ impl Tables {
     }
 
     /// What a mail turn hands over of a notice, with the conversation of its message.
-    fn ready_item(&self, notice: &Waiting, message: &Message) -> Result<ReadyItem, OutOfMemory>
+    pub(crate) fn ready_item(
+        &self,
+        notice: &Waiting,
+        message: &Message,
+    ) -> Result<ReadyItem, OutOfMemory>
         ensures { IfOk result (λ made. (past : List Stamped) (n : Notice) → Holds self.now past → notice.now ≡ notice_kept past n → message.now ≡ message_kept n.message → made ≡ ready_item past n) }
     {
         let conversation = self.conversation(message.sender, &message.to)?;
@@ -75,7 +78,7 @@ impl Tables {
     {
         let mut items = ItemList::new(self.alloc);
         for message in self.batches.rows(user) {
-            if let Some(place) = find_batch_row(&self.waiting, user, *message) {
+            if let Some(place) = find_ready(&self.waiting, user, *message, Way::Mail) {
                 if let Some(sent) = item_at(&self.messages, message.0) {
                     items.push(self.ready_item(&self.waiting[place], sent)?)?;
                 }

@@ -1,11 +1,11 @@
 //! Whether an event is lawful after the journal.
-ghost use Rattle.std.specs.Prelude.{◌≡◌, List};
+ghost use Rattle.std.specs.Prelude.{◌≡◌, ℕ, List};
 ghost use Rattle.chat_model.specs.declared.event.Stamped.{Stamped};
 ghost use Rattle.notice_ledger.specs.Lawful.{lawful, is_lawful_after};
 ghost use Rattle.notice_ledger.specs.Past.Lawful.{may_stand};
 
 use crate::tables::Tables;
-use chat_model::{Event, Moment, Stamped, UserId};
+use chat_model::{Event, Moment, PushItem, Same, Stamped, UserId};
 use notice_ledger::is_in_order;
 
 impl Tables {
@@ -21,6 +21,16 @@ impl Tables {
         }
     }
 
+    /// Whether the push turn of the item may come: it is the item that waits longest.
+    fn is_oldest(&self, item: &PushItem) -> bool
+        ensures { (j : List Stamped) (at : ℕ) → StandsFor self.now j → result ≡ may_stand (lawful j) at (Event.PushTurn item.now) }
+    {
+        match self.oldest() {
+            Some(oldest) => item.is_same(oldest),
+            None => false,
+        }
+    }
+
     /// Whether the event is lawful after the journal. It takes no memory.
     pub fn lawful(&self, event: &Stamped) -> bool
         ensures { (j : List Stamped) → StandsFor self.now j → result ≡ is_lawful_after j event.now }
@@ -31,6 +41,7 @@ impl Tables {
                 Event::Asked(request) => self.check(request).is_none() && is_in_order(request),
                 Event::Absorbed(_) => true,
                 Event::MailTurn(user) => self.is_turn(event.at, *user),
+                Event::PushTurn(item) => self.is_oldest(item),
             }
     }
 }

@@ -16,6 +16,7 @@ mod mails;
 mod notices;
 mod preferences;
 mod prepared;
+mod pushes;
 mod readiness;
 mod refusal;
 mod rows;
@@ -27,4 +28,5 @@ mod waiting;
 
 pub use mail_batches::DueUser;
 pub use prepared::Prepared;
+pub use pushes::PushVerdict;
 pub use tables::Tables;

@@ -7,23 +7,24 @@ ghost use Rattle.std.specs.List.{flat_map};
 ghost use Rattle.notice_ledger.specs.Past.Values.{person};
 ghost use Rattle.chat_model.specs.Rows.{changed_all};
 ghost use Rattle.notice_ledger.specs.InOrder.{is_ascending, is_in_order};
-ghost use Rattle.notice_ledger.specs.Lawful.{is_lawful_after};
+ghost use Rattle.notice_ledger.specs.Lawful.{lawful, is_lawful_after};
 ghost use Rattle.notice_ledger.specs.Rows.{rows};
 ghost use Rattle.notice_ledger.specs.Past.Rows.{outbox_rows_from};
 ghost use Rattle.book_tables.specs.UserSets.{users_in};
 ghost use Rattle.book_tables.specs.Notices.{IsInOrder, is_undecided, is_undecided_at, is_undecided_of, readied, dealt_to, named_by};
 ghost use Rattle.chat_model.specs.Outcomes.{is_idle, is_live};
-ghost use Rattle.book_tables.specs.Prepared.{notice_row, key_of_notice, puts_where, removes_where, removed_mail, changes_of};
+ghost use Rattle.book_tables.specs.Prepared.{notice_row, key_of_notice, active_row, turn_rows, puts_where, removes_where, removed_mail, changes_of};
 
 use crate::facts::set_of;
 use crate::preferences::Preference;
+use crate::pushes::{PushKey, dealt_pushes, missed_pushes, once_each, undecided_pushes};
 use crate::tables::{Message, Tables, Waiting};
 use crate::user_set::UserSet;
 use crate::waiting::{find_deal, find_undecided};
 use chat_model::{
     ChannelId, Deal, DealNo, Entry, EntryNo, Event, GroupId, GroupName, List, MessageId, Moment,
-    OutOfMemory, Outcome, Policy, QueueId, Request, Row, RowChange, RowKey, SettingChange,
-    Settings, Stamped, Text, UserId, UserName, UserVerdict, Verdict, Way,
+    OutOfMemory, Outcome, Policy, PushItem, QueueId, Request, Row, RowChange, RowKey,
+    SettingChange, Settings, Stamped, Text, UserId, UserName, UserVerdict, Verdict, Way,
 };
 use notice_ledger::Destination;
 use std::alloc::Global;
@@ -39,7 +40,10 @@ pub struct Prepared {
 /// What an event does to the tables.
 #[derive(Debug, Drop)]
 pub enum Effect {
-    Start,
+    /// The pushes are those that become ready, by user, then message.
+    Start {
+        pushes: Vec<PushKey>,
+    },
     User {
         user: UserName,
         bot: bool,
@@ -70,21 +74,23 @@ pub enum Effect {
         waiting: Vec<Waiting>,
         deal: Deal,
     },
-    /// A deal was dealt: the users who were found idle, and those who were found live.
+    /// A deal was dealt: the users who were found idle, those who were found live, and the pushes that become ready.
     Dealt {
         deal: DealNo,
         idle: UserSet,
         live: UserSet,
+        pushes: Vec<PushKey>,
     },
     /// A live queue of the user cleared these deals.
     Cleared {
         user: UserId,
         deals: List<DealNo>,
     },
-    /// The user missed these deals.
+    /// The user missed these deals, and these pushes become ready.
     Missed {
         user: UserId,
         deals: List<DealNo>,
+        pushes: Vec<PushKey>,
     },
     Mailed {
         user: UserId,
@@ -93,6 +99,13 @@ pub enum Effect {
         handed: u64,
         /// How many notices were switched off.
         off: u64,
+    },
+    /// The push item that waited longest had its turn: the entry of a push that was handed over, and none of one that
+    /// was switched off.
+    Pushed {
+        user: UserId,
+        message: MessageId,
+        entry: Option<Entry>,
     },
 }
 
@@ -290,11 +303,56 @@ pub(crate) fn put_entries(
     Ok(())
 }
 
+/// Adds the rows of active pushes.
+pub(crate) fn put_active(
+    changes: &mut Vec<RowChange>,
+    active: &[PushKey],
+) -> Result<(), OutOfMemory>
+    ensures { OnOk result (changes.new.items ≡ changes.old.items ++ map (λ p. Put (active_row p)) active.now) }
+{
+    for push in active {
+        changes.push(RowChange::Put(Row::Active {
+            user: push.user,
+            message: push.message,
+        }))?;
+    }
+    Ok(())
+}
+
+/// Adds the rows that the turn of a push adds where it is handed over: that it is active, and its entry, which follows so
+/// many others.
+fn put_turn(
+    alloc: Global,
+    changes: &mut Vec<RowChange>,
+    push: PushKey,
+    before: usize,
+    entry: &Option<Entry>,
+) -> Result<(), OutOfMemory>
+    requires { before + 1 < 2 ^ 64 }
+    ensures { OnOk result (changes.new.items ≡ changes.old.items ++ turn_rows push before entry.now) }
+{
+    match entry {
+        Some(entry) => {
+            changes.push(RowChange::Put(Row::Active {
+                user: push.user,
+                message: push.message,
+            }))?;
+            changes.push(RowChange::Put(Row::Outbox {
+                number: EntryNo(before as u64 + 1),
+                entry: entry.copy(alloc)?,
+                spooled: false,
+            }))?;
+            Ok(())
+        }
+        None => Ok(()),
+    }
+}
+
 impl Tables {
-    ghost use Rattle.chat_model.specs.declared.event.Event.TheVariants.{Restart, Asked, Absorbed, MailTurn};
+    ghost use Rattle.chat_model.specs.declared.event.Event.TheVariants.{Restart, Asked, Absorbed, MailTurn, PushTurn};
     ghost use Rattle.chat_model.specs.declared.deal.Outcome.TheVariants.{Dealt, Cleared, Missed};
     ghost use Rattle.chat_model.specs.declared.request.Request.TheVariants.{AddUser, AddGroup, Set, SetPolicy, Send, Direct};
-    ghost use Rattle.book_tables.specs.Tables.{Holds, HoldSome, StandsFor, send_of};
+    ghost use Rattle.book_tables.specs.Tables.{Holds, HoldSome, StandsFor, IsOldest, WaitsLongest, send_of, push_turn};
     ghost use Rattle.book_tables.specs.Prepared.{Follows, IsPreparedFor, MayFollow};
 
     fn prepare_user(&self, at: Moment, name: &Text, bot: bool) -> Result<Prepared, OutOfMemory>
@@ -481,10 +539,11 @@ impl Tables {
     {
         let mut changes = Vec::new(self.alloc);
         put_ready(&mut changes, &self.waiting)?;
+        let pushes = once_each(undecided_pushes(self.alloc, &self.waiting)?);
         Ok(Prepared {
             at,
             changes,
-            effect: Effect::Start,
+            effect: Effect::Start { pushes },
         })
     }
 
@@ -500,10 +559,17 @@ impl Tables {
         let live = set_of(live_users(self.alloc, verdicts.as_slice())?);
         let mut changes = Vec::new(self.alloc);
         put_dealt(&mut changes, &self.waiting, deal, &idle, &live)?;
+        let pushes = dealt_pushes(self.alloc, &self.waiting, deal, &idle, &live)?;
+        let pushes = once_each(pushes);
         Ok(Prepared {
             at,
             changes,
-            effect: Effect::Dealt { deal, idle, live },
+            effect: Effect::Dealt {
+                deal,
+                idle,
+                live,
+                pushes,
+            },
         })
     }
 
@@ -536,12 +602,55 @@ impl Tables {
     {
         let mut changes = Vec::new(self.alloc);
         put_all_missed(&mut changes, &self.waiting, user, deals.as_slice())?;
+        let pushes = missed_pushes(self.alloc, &self.waiting, user, deals.as_slice())?;
+        let pushes = once_each(pushes);
         let deals = deals.copy()?;
         Ok(Prepared {
             at,
             changes,
-            effect: Effect::Missed { user, deals },
+            effect: Effect::Missed {
+                user,
+                deals,
+                pushes,
+            },
         })
+    }
+
+    /// The turn of the push item that waits longest.
+    fn prepare_push(
+        &self,
+        at: Moment,
+        user: UserId,
+        message: MessageId,
+    ) -> Result<Prepared, OutOfMemory>
+        requires { WaitsLongest self.now user message }
+        ensures { IfOk result (λ p. (j : Items Stamped) → StandsFor self.now j → Follows (lawful j) (push_turn at user message) p) }
+    {
+        let entry = self.pushed_entry(at, user, message)?;
+        let mut changes = Vec::new(self.alloc);
+        changes.push(RowChange::Remove(RowKey::Pending(user, message, Way::Push)))?;
+        let push = PushKey { user, message };
+        put_turn(self.alloc, &mut changes, push, self.outbox.len(), &entry)?;
+        Ok(Prepared {
+            at,
+            changes,
+            effect: Effect::Pushed {
+                user,
+                message,
+                entry,
+            },
+        })
+    }
+
+    /// The turn of a push item, which waits longest. No item that removes pushes waits yet.
+    fn prepare_turn(&self, at: Moment, item: &PushItem) -> Result<Prepared, OutOfMemory>
+        requires { IsOldest self.now item.now }
+        ensures { IfOk result (λ p. (j : Items Stamped) → StandsFor self.now j → Follows (lawful j) (record { at = at; event = PushTurn item.now }) p) }
+    {
+        match item {
+            PushItem::Notify { user, message } => self.prepare_push(at, *user, *message),
+            PushItem::Remove { .. } => unreachable!(),
+        }
     }
 
     /// What an absorbed outcome changes: the notices that it names alone.
@@ -651,6 +760,7 @@ impl Tables {
             Event::Asked(request) => self.prepare_asked(event.at, request),
             Event::Absorbed(outcome) => self.prepare_absorbed(event.at, outcome),
             Event::MailTurn(user) => self.prepare_mails(event.at, *user),
+            Event::PushTurn(item) => self.prepare_turn(event.at, item),
         }
     }
 }

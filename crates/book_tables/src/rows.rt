@@ -6,7 +6,7 @@ ghost use Rattle.notice_ledger.specs.Rows.{rows};
 ghost use Rattle.notice_ledger.specs.Past.Values.{people, messages};
 ghost use Rattle.notice_ledger.specs.Past.Rows.{user_rows_from, message_rows_from};
 
-use crate::prepared::{put_entries, put_notices};
+use crate::prepared::{put_active, put_entries, put_notices};
 use crate::tables::Tables;
 use chat_model::{List, MessageId, OutOfMemory, Row, RowChange, change_all};
 
@@ -51,6 +51,7 @@ impl Tables {
         self.put_users(&mut puts)?;
         self.put_messages(&mut puts)?;
         put_notices(&mut puts, &self.waiting)?;
+        put_active(&mut puts, &self.active)?;
         put_entries(self.alloc, &mut puts, 0, &self.outbox)?;
         let mut rows = Vec::new(self.alloc);
         rows.reserve(puts.len())?;

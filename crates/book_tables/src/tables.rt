@@ -5,6 +5,7 @@ ghost use Rattle.chat_model.specs.declared.event.Stamped.{Stamped};
 ghost use Rattle.notice_ledger.specs.Past.Values.{numbered};
 
 use crate::preferences::Preferences;
+use crate::pushes::PushKey;
 use crate::user_set::UserSet;
 use chat_model::{
     Answer, ChannelId, Deal, DealNo, Entry, EntryNo, GroupId, GroupName, MessageId, Moment,
@@ -12,6 +13,7 @@ use chat_model::{
 };
 use mail_batches::Batches;
 use notice_ledger::Destination;
+use push_state::PushQueue;
 use std::alloc::Global;
 
 /// A message as it was sent.
@@ -55,6 +57,10 @@ pub struct Tables {
     pub(crate) waiting: Vec<Waiting>,
     /// The mails among them that are ready, by user, and when they are due.
     pub(crate) batches: Batches,
+    /// The push items that wait for their turns.
+    pub(crate) pushes: PushQueue,
+    /// The pushes that were handed over, in the order of their turns.
+    pub(crate) active: Vec<PushKey>,
     /// By their numbers, from 0.
     pub(crate) deals: Vec<Deal>,
     pub(crate) outbox: Vec<Entry>,
@@ -114,6 +120,8 @@ impl Tables {
             messages: Vec::new(alloc),
             waiting: Vec::new(alloc),
             batches: Batches::new(alloc),
+            pushes: PushQueue::new(alloc),
+            active: Vec::new(alloc),
             deals: Vec::new(alloc),
             outbox: Vec::new(alloc),
             handed: 0,

@@ -3,7 +3,7 @@
 ghost use Rattle.std.specs.Prelude.{◌≡◌, ◌≤◌, ◌<◌, ◌+◌, not, ◌&&◌, length, filter, IfSome};
 ghost use Rattle.std.specs.Option.{MatchOption};
 ghost use Rattle.book_tables.specs.UserSets.{users_in};
-ghost use Rattle.book_tables.specs.Notices.{rank, is_ready, is_undecided_mail, is_at_stage, is_before, is_at, is_undecided, is_undecided_at, is_batch_row, is_one_batch_row, of_deal, is_named, goes_ready, moved, readied, dealt_to, IsInOrder, AreNumbered, IsFound, IsStretchOf};
+ghost use Rattle.book_tables.specs.Notices.{rank, is_ready, is_undecided_mail, is_at_stage, is_before, is_at, is_undecided, is_undecided_at, is_ready_of, is_one_batch_row, is_undecided_push, of_deal, is_named, goes_ready, moved, readied, dealt_to, IsInOrder, AreNumbered, IsFound, IsStretchOf};
 
 use crate::tables::Waiting;
 use crate::user_set::UserSet;
@@ -31,6 +31,13 @@ impl Waiting {
         ensures { result ≡ is_undecided_mail self.now }
     {
         rank(self.way) == 0 && !self.is_ready()
+    }
+
+    /// Whether it is a push, and not ready.
+    pub fn is_undecided_push(&self) -> bool
+        ensures { result ≡ is_undecided_push self.now }
+    {
+        rank(self.way) == 1 && !self.is_ready()
     }
 
     /// Whether it has come this far and no further.
@@ -131,13 +138,13 @@ fn deal_of(message: MessageId) -> Option<DealNo>
     Some(DealNo(number))
 }
 
-/// The place of the user's batch row of a message.
-pub fn find_batch_row(waiting: &[Waiting], user: UserId, message: MessageId) -> Option<usize>
+/// The place of the user's notice of a message by a way, where it is ready.
+pub fn find_ready(waiting: &[Waiting], user: UserId, message: MessageId, way: Way) -> Option<usize>
     ensures within { IfSome result (λ place. place < length waiting.now) }
-    ensures found { IsInOrder waiting.now → AreNumbered waiting.now → IsFound (is_batch_row user message) waiting.now result }
+    ensures found { IsInOrder waiting.now → AreNumbered waiting.now → IsFound (is_ready_of user message way) waiting.now result }
 {
     let deal = deal_of(message)?;
-    let place = find_notice(waiting, deal, user, Way::Mail)?;
+    let place = find_notice(waiting, deal, user, way)?;
     if waiting[place].is_ready() {
         Some(place)
     } else {
@@ -183,11 +190,11 @@ pub fn clear_named(waiting: &mut Vec<Waiting>, user: UserId, deals: &[DealNo])
     }
 }
 
-/// Takes the user's batch row of a message out.
-fn take_batch_row(waiting: &mut Vec<Waiting>, user: UserId, message: MessageId)
-    ensures { IsInOrder waiting.old.items → AreNumbered waiting.old.items → waiting.new.items ≡ filter (λ w. not (is_batch_row user message w)) waiting.old.items }
+/// Takes the user's notice of a message by a way out, where it is ready.
+pub fn take_ready(waiting: &mut Vec<Waiting>, user: UserId, message: MessageId, way: Way)
+    ensures { IsInOrder waiting.old.items → AreNumbered waiting.old.items → waiting.new.items ≡ filter (λ w. not (is_ready_of user message way w)) waiting.old.items }
 {
-    if let Some(place) = find_batch_row(waiting, user, message) {
+    if let Some(place) = find_ready(waiting, user, message, way) {
         waiting.remove(place);
     }
 }
@@ -197,6 +204,6 @@ pub fn take_batch_rows(waiting: &mut Vec<Waiting>, user: UserId, messages: &[Mes
     ensures { IsInOrder waiting.old.items → AreNumbered waiting.old.items → waiting.new.items ≡ filter (λ w. not (is_one_batch_row user messages.now w)) waiting.old.items }
 {
     for message in messages {
-        take_batch_row(waiting, user, *message);
+        take_ready(waiting, user, *message, Way::Mail);
     }
 }

@@ -22,12 +22,16 @@ use Rattle.chat_model.specs.declared.deal.UserVerdict.{UserVerdict}
 use Rattle.chat_model.specs.declared.deal.Outcome.{Outcome}
 use Rattle.chat_model.specs.declared.deal.Outcome.TheVariants.{Dealt, Cleared, Missed}
 use Rattle.chat_model.specs.declared.event.Event.{Event}
-use Rattle.chat_model.specs.declared.event.Event.TheVariants.{Restart, Asked, Absorbed, MailTurn}
+use Rattle.chat_model.specs.declared.event.Event.TheVariants.{Restart, Asked, Absorbed, MailTurn, PushTurn}
 use Rattle.chat_model.specs.declared.event.Stamped.{Stamped}
 use Rattle.chat_model.specs.declared.entry.Item.{Item}
 use Rattle.chat_model.specs.declared.entry.Conversation.{Conversation}
 use Rattle.chat_model.specs.declared.entry.Conversation.TheVariants as conversation
 use Rattle.chat_model.specs.declared.entry.Entry.{Entry}
+use Rattle.chat_model.specs.declared.entry.Entry.TheVariants as entry
+use Rattle.chat_model.specs.declared.ids.MessageId.{MessageId}
+use Rattle.chat_model.specs.declared.push_item.PushItem.{PushItem}
+use Rattle.chat_model.specs.declared.push_item.PushItem.TheVariants as push
 use Rattle.chat_model.specs.declared.row.Row.{Row}
 use Rattle.chat_model.specs.declared.row.Row.TheVariants as row
 use Rattle.chat_model.specs.declared.row.RowKey.{RowKey}
@@ -43,6 +47,8 @@ use Rattle.chat_model.specs.contracts.mentions.UserNamePartialEq.TheImpl as user
 use Rattle.chat_model.specs.contracts.mentions.GroupNamePartialEq.TheImpl as group_name_eq
 use Rattle.chat_model.specs.contracts.request.RequestPartialEq.TheImpl as request_eq
 use Rattle.chat_model.specs.contracts.ids.DealNoPartialEq.TheImpl as deal_no_eq
+use Rattle.chat_model.specs.contracts.ids.MessageIdPartialEq.TheImpl as message_eq
+use Rattle.chat_model.specs.contracts.push_item.PushItemPartialEq.TheImpl as push_item_eq
 use Rattle.chat_model.specs.contracts.deal.UserVerdictPartialEq.TheImpl as user_verdict_eq
 use Rattle.chat_model.specs.contracts.deal.OutcomePartialEq.TheImpl as outcome_eq
 use Rattle.chat_model.specs.contracts.event.EventPartialEq.TheImpl as event_eq
@@ -195,11 +201,23 @@ outcome_exact (Cleared u deals queue) (Cleared u' deals' queue') = (λ h. grind 
 outcome_exact (Missed u deals) (Missed u' deals') = (λ h. grind (arith, common_steps, deals_exact), λ h. grind (arith, common_steps, deals_exact))
 outcome_exact _ _ = (λ h. cc, λ h. cc)
 
+message_id_exact : (a b : MessageId) → Decides ((message_eq.ghosts).eq a b) (a ≡ b)
+message_id_exact a b = (λ h. grind (arith, common_steps), λ h. grind (arith, common_steps))
+
+message_ids_exact : (a b : List MessageId) → Decides (pointwise (message_eq.ghosts).eq a b) (a ≡ b)
+message_ids_exact a b = slice_eq-Decides message_id_exact a b (pointwise (message_eq.ghosts).eq a b) refl
+
+pub push_item_exact : (a b : PushItem) → Decides ((push_item_eq.ghosts).eq a b) (a ≡ b)
+push_item_exact (push.Notify u m) (push.Notify v n) = (λ h. grind (arith, common_steps), λ h. grind (arith, common_steps))
+push_item_exact (push.Remove u ms) (push.Remove v ns) = (λ h. grind (arith, common_steps, message_ids_exact), λ h. grind (arith, common_steps, message_ids_exact))
+push_item_exact _ _ = (λ h. cc, λ h. cc)
+
 pub event_exact : (a b : Event) → Decides ((event_eq.ghosts).eq a b) (a ≡ b)
 event_exact Restart Restart = (λ h. refl, λ h. refl)
 event_exact (Asked r) (Asked q) = (λ h. ap Asked ((request_exact r q).0 h), λ h. (request_exact r q).1 cc)
 event_exact (Absorbed o) (Absorbed p) = (λ h. ap Absorbed ((outcome_exact o p).0 h), λ h. (outcome_exact o p).1 cc)
 event_exact (MailTurn u) (MailTurn v) = (λ h. ap MailTurn ((user_exact u v).0 h), λ h. (user_exact u v).1 cc)
+event_exact (PushTurn i) (PushTurn j) = (λ h. ap PushTurn ((push_item_exact i j).0 h), λ h. (push_item_exact i j).1 cc)
 event_exact _ _ = (λ h. cc, λ h. cc)
 
 pub stamped_exact : (a b : Stamped) → Decides ((stamped_eq.ghosts).eq a b) (a ≡ b)
@@ -217,7 +235,9 @@ conversation_exact (conversation.Direct us u) (conversation.Direct vs v) = (λ h
 conversation_exact _ _ = (λ h. cc, λ h. cc)
 
 pub entry_exact : (a b : Entry) → Decides ((entry_eq.ghosts).eq a b) (a ≡ b)
-entry_exact a b = (λ h. grind (arith, common_steps, text_exact, conversation_exact, items_exact), λ h. grind (arith, common_steps, text_exact, conversation_exact, items_exact))
+entry_exact (entry.Mail u n at c items) (entry.Mail v m at' d items') = (λ h. grind (arith, common_steps, text_exact, conversation_exact, items_exact), λ h. grind (arith, common_steps, text_exact, conversation_exact, items_exact))
+entry_exact (entry.Push u n at c i) (entry.Push v m at' d j) = (λ h. grind (arith, common_steps, text_exact, conversation_exact, item_exact), λ h. grind (arith, common_steps, text_exact, conversation_exact, item_exact))
+entry_exact _ _ = (λ h. cc, λ h. cc)
 
 user_row_same : (i j : UserId) (n m : List ℕ) (c d : Bool) (s t : Settings) → ((user_eq.ghosts).eq i j && ((text_eq.ghosts).eq n m && ((bool_eq.ghosts).eq c d && (settings_eq.ghosts).eq s t))) ≡ true → row.User i n c s ≡ row.User j m d t
 user_row_same i j n m c d s t h =
@@ -237,6 +257,7 @@ pub row_exact : (a b : Row) → Decides ((row_eq.ghosts).eq a b) (a ≡ b)
 row_exact (row.User i n c s) (row.User j m d t) = (user_row_same i j n m c d s t, λ h. user_row_itself i j n m c d s t (cc) (cc) (cc) (cc))
 row_exact (row.Message i u t d) (row.Message j v s e) = (λ h. grind (arith, common_steps, text_exact), λ h. grind (arith, common_steps, text_exact))
 row_exact (row.Pending u m w t d s) (row.Pending u' m' w' t' d' s') = (λ h. grind (arith, common_steps), λ h. grind (arith, common_steps))
+row_exact (row.Active u m) (row.Active u' m') = (λ h. grind (arith, common_steps), λ h. grind (arith, common_steps))
 row_exact (row.Outbox n e s) (row.Outbox k f t) = (λ h. grind (arith, common_steps, entry_exact), λ h. grind (arith, common_steps, entry_exact))
 row_exact _ _ = (λ h. cc, λ h. cc)
 
@@ -244,6 +265,7 @@ row_key_exact : (a b : RowKey) → Decides ((row_key_eq.ghosts).eq a b) (a ≡ b
 row_key_exact (key.User i) (key.User j) = (λ h. grind (arith, common_steps), λ h. grind (arith, common_steps))
 row_key_exact (key.Message i) (key.Message j) = (λ h. grind (arith, common_steps), λ h. grind (arith, common_steps))
 row_key_exact (key.Pending u m w) (key.Pending v n x) = (λ h. grind (arith, common_steps), λ h. grind (arith, common_steps))
+row_key_exact (key.Active u m) (key.Active v n) = (λ h. grind (arith, common_steps), λ h. grind (arith, common_steps))
 row_key_exact (key.Outbox i) (key.Outbox j) = (λ h. grind (arith, common_steps), λ h. grind (arith, common_steps))
 row_key_exact _ _ = (λ h. cc, λ h. cc)
 

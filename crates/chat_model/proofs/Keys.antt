@@ -38,6 +38,10 @@ same_place (key.Pending u m v) (key.Pending t n w) e =
     let messages : m.0 ≡ n.0 = cc in
     let places : way_place v ≡ way_place w = cc in
     (λ i. key.Pending (record { 0 = users i }) (record { 0 = messages i }) (same_way v w places i))
+same_place (key.Active u m) (key.Active v n) e =
+    let users : u.0 ≡ v.0 = cc in
+    let messages : m.0 ≡ n.0 = cc in
+    (λ i. key.Active (record { 0 = users i }) (record { 0 = messages i }))
 same_place (key.Outbox m) (key.Outbox n) e =
     let h : m.0 ≡ n.0 = cc in ap (λ i. key.Outbox (record { 0 = i })) h
 same_place a b e = cc
@@ -79,6 +83,14 @@ pub pending_by_way : (u : UserId) (m : MessageId) → key_cmp (key.Pending u m M
 unfolding key_cmp
 pending_by_way u m = rw (tied u.0, tied m.0) refl
 
+pub active_by_user : (u v : UserId) (m n : MessageId) → u.0 < v.0 → key_cmp (key.Active u m) (key.Active v n) ≡ Less
+unfolding key_cmp
+active_by_user u v m n h = rw (less u.0 v.0 h) refl
+
+pub active_by_message : (u : UserId) (m n : MessageId) → m.0 < n.0 → key_cmp (key.Active u m) (key.Active u n) ≡ Less
+unfolding key_cmp
+active_by_message u m n h = rw (tied u.0, less m.0 n.0 h) refl
+
 -- ---- the order of the tables
 
 pub user_below_message : (u : UserId) (m : MessageId) → key_cmp (key.User u) (key.Message m) ≡ Less
@@ -96,6 +108,22 @@ user_below_outbox u n = refl
 pub message_below_pending : (m n : MessageId) (u : UserId) (w : Way) → key_cmp (key.Message m) (key.Pending u n w) ≡ Less
 unfolding key_cmp
 message_below_pending m n u w = refl
+
+pub user_below_active : (u v : UserId) (m : MessageId) → key_cmp (key.User u) (key.Active v m) ≡ Less
+unfolding key_cmp
+user_below_active u v m = refl
+
+pub message_below_active : (m n : MessageId) (u : UserId) → key_cmp (key.Message m) (key.Active u n) ≡ Less
+unfolding key_cmp
+message_below_active m n u = refl
+
+pub pending_below_active : (u v : UserId) (m n : MessageId) (w : Way) → key_cmp (key.Pending u m w) (key.Active v n) ≡ Less
+unfolding key_cmp
+pending_below_active u v m n w = refl
+
+pub active_below_outbox : (u : UserId) (m : MessageId) (n : EntryNo) → key_cmp (key.Active u m) (key.Outbox n) ≡ Less
+unfolding key_cmp
+active_below_outbox u m n = refl
 
 pub message_below_outbox : (m : MessageId) (n : EntryNo) → key_cmp (key.Message m) (key.Outbox n) ≡ Less
 unfolding key_cmp

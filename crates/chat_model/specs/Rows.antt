@@ -23,7 +23,8 @@ abbrev pub key_place : RowKey → List ℕ
 key_place (key.User user) = 0 ∷ user.0 ∷ []
 key_place (key.Message message) = 1 ∷ message.0 ∷ []
 key_place (key.Pending user message way) = 2 ∷ user.0 ∷ message.0 ∷ way_place way ∷ []
-key_place (key.Outbox number) = 3 ∷ number.0 ∷ []
+key_place (key.Active user message) = 3 ∷ user.0 ∷ message.0 ∷ []
+key_place (key.Outbox number) = 4 ∷ number.0 ∷ []
 
 -- keys stand in the order of their places, number by number
 unfoldable pub key_cmp : RowKey → RowKey → Ordering
@@ -34,6 +35,7 @@ abbrev pub key_of : Row → RowKey
 key_of (row.User id name bot settings) = key.User id
 key_of (row.Message id sender text deleted) = key.Message id
 key_of (row.Pending user message way trigger deal stage) = key.Pending user message way
+key_of (row.Active user message) = key.Active user message
 key_of (row.Outbox number entry spooled) = key.Outbox number
 
 -- each row's key is below the keys of the rows after it

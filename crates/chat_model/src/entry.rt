@@ -105,6 +105,14 @@ pub enum Entry {
         conversation: Conversation,
         items: List<Item>,
     },
+    /// A push shows the first 200 characters of its message's text.
+    Push {
+        user: UserId,
+        name: Text,
+        at: Moment,
+        conversation: Conversation,
+        item: Item,
+    },
 }
 
 impl Entry {
@@ -129,6 +137,19 @@ impl Entry {
                     items: List::from(copies),
                 })
             }
+            Entry::Push {
+                user,
+                name,
+                at,
+                conversation,
+                item,
+            } => Ok(Entry::Push {
+                user: *user,
+                name: name.copy()?,
+                at: *at,
+                conversation: conversation.copy(alloc)?,
+                item: item.copy(alloc)?,
+            }),
         }
     }
 }

@@ -2,7 +2,7 @@
 ghost use Rattle.std.specs.Prelude.{◌≡◌, IfOk};
 
 use crate::duplicate::Duplicate;
-use crate::{Moment, OutOfMemory, Outcome, Request, Same, UserId};
+use crate::{Moment, OutOfMemory, Outcome, PushItem, Request, Same, UserId};
 use std::alloc::Global;
 
 /// What happened.
@@ -16,6 +16,8 @@ pub enum Event {
     Absorbed(Outcome),
     /// The due mails of a user were handed over.
     MailTurn(UserId),
+    /// The push item that waited longest had its turn.
+    PushTurn(PushItem),
 }
 
 impl Event {
@@ -28,6 +30,7 @@ impl Event {
             Event::Asked(request) => Ok(Event::Asked(request.copy(alloc)?)),
             Event::Absorbed(outcome) => Ok(Event::Absorbed(outcome.copy(alloc)?)),
             Event::MailTurn(user) => Ok(Event::MailTurn(*user)),
+            Event::PushTurn(item) => Ok(Event::PushTurn(item.copy(alloc)?)),
         }
     }
 }

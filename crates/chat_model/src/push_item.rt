@@ -1,7 +1,8 @@
 //! What waits to be pushed.
 ghost use Rattle.std.specs.Prelude.{◌≡◌, IfOk};
 
-use crate::{List, MessageId, OutOfMemory, UserId};
+use crate::duplicate::Duplicate;
+use crate::{List, MessageId, OutOfMemory, Same, UserId};
 use std::alloc::Global;
 
 /// A push that waits for its turn: that of a notice, or the removal of pushes that were handed over.
@@ -32,5 +33,17 @@ impl PushItem {
                 messages: messages.copy()?,
             }),
         }
+    }
+}
+
+impl Duplicate for PushItem {
+    fn duplicate(&self, alloc: Global) -> Result<Self, OutOfMemory> {
+        self.copy(alloc)
+    }
+}
+
+impl Same for PushItem {
+    fn is_same(&self, other: &PushItem) -> bool {
+        self == other
     }
 }

@@ -54,6 +54,11 @@ pub enum Row {
         deal: DealNo,
         stage: Stage,
     },
+    /// A push that was handed over and may still be shown.
+    Active {
+        user: UserId,
+        message: MessageId,
+    },
     Outbox {
         number: EntryNo,
         entry: Entry,
@@ -75,6 +80,7 @@ impl Row {
                 way,
                 ..
             } => RowKey::Pending(*user, *message, *way),
+            Row::Active { user, message } => RowKey::Active(*user, *message),
             Row::Outbox { number, .. } => RowKey::Outbox(*number),
         }
     }
@@ -121,6 +127,10 @@ impl Row {
                 deal: *deal,
                 stage: *stage,
             }),
+            Row::Active { user, message } => Ok(Row::Active {
+                user: *user,
+                message: *message,
+            }),
             Row::Outbox {
                 number,
                 entry,
@@ -155,6 +165,7 @@ pub enum RowKey {
     User(UserId),
     Message(MessageId),
     Pending(UserId, MessageId, Way),
+    Active(UserId, MessageId),
     Outbox(EntryNo),
 }
 
@@ -192,6 +203,9 @@ impl RowKey {
             }
             (RowKey::Pending(..), _) => Ordering::Less,
             (_, RowKey::Pending(..)) => Ordering::Greater,
+            (RowKey::Active(a, m), RowKey::Active(b, n)) => a.0.cmp(&b.0).then(m.0.cmp(&n.0)),
+            (RowKey::Active(..), _) => Ordering::Less,
+            (_, RowKey::Active(..)) => Ordering::Greater,
             (RowKey::Outbox(a), RowKey::Outbox(b)) => a.0.cmp(&b.0),
         }
     }

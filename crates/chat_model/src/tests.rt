@@ -32,9 +32,8 @@ fn user_row(alloc: Global) -> Result<Row, OutOfMemory> {
     })
 }
 
-fn mail_entry(alloc: Global) -> Result<Entry, OutOfMemory> {
-    let mut items = List::new(alloc);
-    items.push(Item {
+fn item(alloc: Global) -> Result<Item, OutOfMemory> {
+    Ok(Item {
         message: MessageId(1),
         sender: UserId(1),
         sender_name: ada(alloc)?,
@@ -44,7 +43,20 @@ fn mail_entry(alloc: Global) -> Result<Entry, OutOfMemory> {
             name: Text::from_str(alloc, "ops")?,
         }),
         text: Text::from_str(alloc, "hi @**Ben**")?,
-    })?;
+    })
+}
+
+fn lunch(alloc: Global) -> Result<Conversation, OutOfMemory> {
+    Ok(Conversation::Channel {
+        channel: ChannelId(1),
+        name: Text::from_str(alloc, "team")?,
+        topic: Text::from_str(alloc, "lunch")?,
+    })
+}
+
+fn mail_entry(alloc: Global) -> Result<Entry, OutOfMemory> {
+    let mut items = List::new(alloc);
+    items.push(item(alloc)?)?;
     let Some(at) = Moment::new(220) else {
         return Err(OutOfMemory);
     };
@@ -52,12 +64,21 @@ fn mail_entry(alloc: Global) -> Result<Entry, OutOfMemory> {
         user: UserId(2),
         name: Text::from_str(alloc, "Ben")?,
         at,
-        conversation: Conversation::Channel {
-            channel: ChannelId(1),
-            name: Text::from_str(alloc, "team")?,
-            topic: Text::from_str(alloc, "lunch")?,
-        },
+        conversation: lunch(alloc)?,
         items,
+    })
+}
+
+fn push_entry(alloc: Global) -> Result<Entry, OutOfMemory> {
+    let Some(at) = Moment::new(100) else {
+        return Err(OutOfMemory);
+    };
+    Ok(Entry::Push {
+        user: UserId(2),
+        name: Text::from_str(alloc, "Ben")?,
+        at,
+        conversation: lunch(alloc)?,
+        item: item(alloc)?,
     })
 }
 
@@ -371,6 +392,43 @@ fn entries_are_copied_with_their_items(rt: HostRuntime) -> Result<(), Fail> {
             assert_eq!(rt; items[0].message, MessageId(1));
             assert_eq!(rt; items[0].text.as_str(), "hi @**Ben**");
         }
+        Entry::Push { .. } => panic!(rt; "another entry"),
+    }
+    Ok(())
+}
+
+#[test]
+fn pushed_entries_are_copied_with_their_item(rt: HostRuntime) -> Result<(), Fail> {
+    let alloc = rt.alloc();
+    let entry = push_entry(alloc)?;
+    let second = entry.copy(alloc)?;
+    assert!(rt; entry.is_same(&second));
+    assert!(rt; !entry.is_same(&mail_entry(alloc)?));
+    match &second {
+        Entry::Push { user, at, item, .. } => {
+            assert_eq!(rt; *user, UserId(2));
+            assert_eq!(rt; at.seconds(), 100);
+            assert_eq!(rt; item.text.as_str(), "hi @**Ben**");
+        }
+        Entry::Mail { .. } => panic!(rt; "another entry"),
+    }
+    Ok(())
+}
+
+/// How many characters of four bytes a text has, and how many its first 200 have.
+const BEGINNINGS: [(usize, usize); 4] = [(0, 0), (199, 199), (200, 200), (201, 200)];
+
+#[test]
+fn a_beginning_counts_characters_and_not_bytes(rt: HostRuntime) -> Result<(), Fail> {
+    let alloc = rt.alloc();
+    for (characters, expected) in BEGINNINGS {
+        let mut long = String::new(alloc);
+        for _ in 0..characters {
+            long.push('\u{1F514}')?;
+        }
+        let begun = Text::from(long).beginning(200)?;
+        assert_eq!(rt; begun.as_str().len(), 4 * expected);
+        assert!(rt; begun.as_str().chars().all(|c| c == '\u{1F514}'));
     }
     Ok(())
 }

@@ -1,6 +1,7 @@
 //! A text whose growth may be refused. Contracts see it as the list of its UTF-8 bytes.
 ghost use Rattle.std.specs.Prelude.{◌≡◌, ℕ, List, IfOk};
 ghost use Rattle.std.specs.String.{string_bytes};
+ghost use Rattle.chat_model.specs.Texts.{beginning};
 
 use crate::{OutOfMemory, Same};
 use std::alloc::Global;
@@ -33,6 +34,15 @@ impl Text {
         ensures { result.now ≡ self.now }
     {
         self.inner.as_str()
+    }
+
+    /// The first so many characters, which are Unicode scalar values and not bytes, or all where there are fewer.
+    pub fn beginning(&self, most: usize) -> Result<Text, OutOfMemory>
+        ensures { IfOk result (λ t. t ≡ beginning most self.now) }
+    {
+        let alloc = *self.inner.allocator();
+        let inner: String = self.as_str().chars().take(most).collect(alloc)?;
+        Ok(Text { inner })
     }
 
     /// A second text of the same characters.

@@ -1,6 +1,6 @@
 -- No notice is lost and none is doubled in the rows of a journal.
-use Rattle.std.proofs.Common.{◌≡◌, ◌≢◌, ℕ, ◌+◌, false, cond, List, [], ◌∷◌, ◌++◌, refl, sym, ap, ◌∙◌, arith}
-use Rattle.std.specs.Prelude.{Option, Some, None, option_map, sum_by, count_by}
+use Rattle.std.proofs.Common.{◌≡◌, ◌≢◌, ℕ, ◌+◌, Bool, true, false, cond, List, [], ◌∷◌, ◌++◌, refl, sym, ap, ◌∙◌, arith}
+use Rattle.std.specs.Prelude.{Option, Some, None, option_map, sum_by, count_by, if◌then◌else◌}
 use Rattle.std.specs.List.{filter_map, cons_option}
 use Rattle.std.specs.Option.{option_map_or}
 use Rattle.std.proofs.lemmas.List.Sums.{sum_by-append, sum_by-cons}
@@ -16,7 +16,8 @@ use Rattle.notice_ledger.specs.declared.accounts.Account.TheVariants.{NotOwed, F
 use Rattle.notice_ledger.specs.Past.Values.{Person, people, SentMessage, messages}
 use Rattle.notice_ledger.specs.Past.Owed.{Notice, is_of, notices, account_of, account, is_pending, waiting}
 use Rattle.notice_ledger.specs.Past.Outbox.{outbox}
-use Rattle.notice_ledger.specs.Past.Rows.{user_rows_from, message_rows_from, outbox_rows_from, stage_of, pending_row, rows}
+use Rattle.notice_ledger.specs.Past.Pushes.{is_active}
+use Rattle.notice_ledger.specs.Past.Rows.{user_rows_from, message_rows_from, outbox_rows_from, stage_of, pending_row, active_row, rows}
 use Rattle.notice_ledger.specs.Rows as any
 use Rattle.notice_ledger.specs.Lawful.{lawful}
 use Rattle.notice_ledger.specs.Conserved.{is_pending_row, items_of, items_in_row, pending_places, outbox_places, cancelled_places, IsConserved}
@@ -26,11 +27,11 @@ use Rattle.notice_ledger.proofs.RowOrder.{sum_by-rows}
 use Rattle.notice_ledger.proofs.Sums.{sum_by_same}
 
 -- a sum over the rows of a journal, table by table
-sum_rows : (f : Row → ℕ) (j : List Stamped) → sum_by f (rows j) ≡ sum_by f (user_rows_from j 1 (people j)) + (sum_by f (message_rows_from 1 (messages j)) + (sum_by f (filter_map (pending_row j) (notices j)) + sum_by f (outbox_rows_from 1 (outbox j))))
+sum_rows : (f : Row → ℕ) (j : List Stamped) → sum_by f (rows j) ≡ sum_by f (user_rows_from j 1 (people j)) + (sum_by f (message_rows_from 1 (messages j)) + (sum_by f (filter_map (pending_row j) (notices j)) + (sum_by f (filter_map (active_row j) (notices j)) + sum_by f (outbox_rows_from 1 (outbox j)))))
 sum_rows f j =
-    let us = user_rows_from j 1 (people j) in let ms = message_rows_from 1 (messages j) in let ps = filter_map (pending_row j) (notices j) in let os = outbox_rows_from 1 (outbox j) in
+    let us = user_rows_from j 1 (people j) in let ms = message_rows_from 1 (messages j) in let ps = filter_map (pending_row j) (notices j) in let actives = filter_map (active_row j) (notices j) in let os = outbox_rows_from 1 (outbox j) in
     sum_by-rows f j
-    ∙ (sum_by-append f us (ms ++ (ps ++ os)) ∙ omega (arith, sum_by-append f ms (ps ++ os), sum_by-append f ps os))
+    ∙ (sum_by-append f us (ms ++ (ps ++ (actives ++ os))) ∙ omega (arith, sum_by-append f ms (ps ++ (actives ++ os)), sum_by-append f ps (actives ++ os), sum_by-append f actives os))
 
 sum_by-filter_map : {X Y : Type 0} (f : Y → ℕ) (h : X → Option Y) (xs : List X) → sum_by f (filter_map h xs) ≡ sum_by (λ x. option_map_or f (h x) 0) xs
 sum_by-filter_map f h [] = refl
@@ -57,6 +58,14 @@ module _ (u : UserId) (m : MessageId) (w : Way) where
   no_message_pending n [] = refl
   no_message_pending n (x ∷ ms) = no_message_pending (n + 1) ms
 
+  no_active_pending : (j : List Stamped) (ns : List Notice) → sum_by pending_in (filter_map (active_row j) ns) ≡ 0
+  no_active_pending j [] = refl
+  no_active_pending j (n ∷ ns) = by (is_active j n) (no_active_pending j ns)
+    where
+      by : (b : Bool) → sum_by pending_in (filter_map (active_row j) ns) ≡ 0 → sum_by pending_in (cons_option (if b then Some (row.Active n.user n.number) else None) (filter_map (active_row j) ns)) ≡ 0
+      by true e = e
+      by false e = e
+
   no_entry_pending : (n : ℕ) (es : List Entry) → sum_by pending_in (outbox_rows_from n es) ≡ 0
   no_entry_pending n [] = refl
   no_entry_pending n (e ∷ es) = no_entry_pending (n + 1) es
@@ -77,7 +86,7 @@ module _ (u : UserId) (m : MessageId) (w : Way) where
   pending_rows : (j : List Stamped) → count_by (is_pending_row u m w) (rows j) ≡ count_by (is_of u m w) (waiting j)
   pending_rows j =
       sum_rows pending_in j
-      ∙ omega (arith, no_user_pending j 1 (people j), no_message_pending 1 (messages j), no_entry_pending 1 (outbox j), notice_rows j)
+      ∙ omega (arith, no_user_pending j 1 (people j), no_message_pending 1 (messages j), no_active_pending j (notices j), no_entry_pending 1 (outbox j), notice_rows j)
 
   no_user_items : (j : List Stamped) (n : ℕ) (ps : List Person) → sum_by (items_in_row u m w) (user_rows_from j n ps) ≡ 0
   no_user_items j n [] = refl
@@ -97,6 +106,14 @@ module _ (u : UserId) (m : MessageId) (w : Way) where
       by Ready e = e
       by a e = e
 
+  no_active_items : (j : List Stamped) (ns : List Notice) → sum_by (items_in_row u m w) (filter_map (active_row j) ns) ≡ 0
+  no_active_items j [] = refl
+  no_active_items j (n ∷ ns) = by (is_active j n) (no_active_items j ns)
+    where
+      by : (b : Bool) → sum_by (items_in_row u m w) (filter_map (active_row j) ns) ≡ 0 → sum_by (items_in_row u m w) (cons_option (if b then Some (row.Active n.user n.number) else None) (filter_map (active_row j) ns)) ≡ 0
+      by true e = e
+      by false e = e
+
   entry_items : (n : ℕ) (es : List Entry) → sum_by (items_in_row u m w) (outbox_rows_from n es) ≡ sum_by (items_of u m w) es
   entry_items n [] = refl
   entry_items n (e ∷ es) =
@@ -107,24 +124,24 @@ module _ (u : UserId) (m : MessageId) (w : Way) where
   outbox_items : (j : List Stamped) → sum_by (items_in_row u m w) (rows j) ≡ sum_by (items_of u m w) (outbox j)
   outbox_items j =
       sum_rows (items_in_row u m w) j
-      ∙ omega (arith, no_user_items j 1 (people j), no_message_items 1 (messages j), no_pending_items j (notices j), entry_items 1 (outbox j))
+      ∙ omega (arith, no_user_items j 1 (people j), no_message_items 1 (messages j), no_pending_items j (notices j), no_active_items j (notices j), entry_items 1 (outbox j))
 
   -- the places of a notice in the rows of events that all count
   placed_rows : (j : List Stamped) → pending_places u m w (rows j) + outbox_places u m w (rows j) ≡ count_by (is_of u m w) (waiting j) + sum_by (items_of u m w) (outbox j)
   placed_rows j =
       ap (λ n. n + outbox_places u m w (rows j)) (pending_rows j) ∙ ap (λ n. count_by (is_of u m w) (waiting j) + n) (outbox_items j)
 
-  owed_rows : (j : List Stamped) → account j u m w ≢ NotOwed → pending_places u m w (rows j) + outbox_places u m w (rows j) + cancelled_places (account j u m w) ≡ 1
-  owed_rows j h = ap (λ n. n + cancelled_places (account j u m w)) (placed_rows j) ∙ places-owed u m w j h
+  owed_rows : (j : List Stamped) → account (lawful j) u m w ≢ NotOwed → pending_places u m w (rows (lawful j)) + outbox_places u m w (rows (lawful j)) + cancelled_places (account (lawful j) u m w) ≡ 1
+  owed_rows j h = ap (λ n. n + cancelled_places (account (lawful j) u m w)) (placed_rows (lawful j)) ∙ places-owed u m w j h
 
-  not_owed_rows : (j : List Stamped) → account j u m w ≡ NotOwed → pending_places u m w (rows j) + outbox_places u m w (rows j) + cancelled_places (account j u m w) ≡ 0
+  not_owed_rows : (j : List Stamped) → account (lawful j) u m w ≡ NotOwed → pending_places u m w (rows (lawful j)) + outbox_places u m w (rows (lawful j)) + cancelled_places (account (lawful j) u m w) ≡ 0
   not_owed_rows j h =
-      let none : cancelled_places (account j u m w) ≡ 0 = ap cancelled_places h in
-      omega (arith, placed_rows j ∙ places-not_owed u m w j h)
+      let none : cancelled_places (account (lawful j) u m w) ≡ 0 = ap cancelled_places h in
+      omega (arith, placed_rows (lawful j) ∙ places-not_owed u m w j h)
 
 -- the rows of any list of events conserve its notices
 pub rows-conserved : (j : List Stamped) → IsConserved j (any.rows j)
 rows-conserved j = record {
-  owed = λ u m w. owed_rows u m w (lawful j);
-  not_owed = λ u m w. not_owed_rows u m w (lawful j);
+  owed = λ u m w. owed_rows u m w j;
+  not_owed = λ u m w. not_owed_rows u m w j;
 }

@@ -97,7 +97,7 @@ batch_rows-append j s u =
 turn_of_mail : (s : Stamped) (u : UserId) (n : Notice) → is_mail_of u n ≡ true → is_turn s n ≡ is_mail_turn_of u s.event
 turn_of_mail s u n mail =
     let parts = and_parts (n.user.0 == u.0) (same_way n.way Mail) mail in
-    ap (λ (w : Way). is_turn_of n.user w s.event) (same_ways n.way Mail parts.1) ∙ ap (λ (v : UserId). is_mail_turn_of v s.event) (same_user n.user u parts.0)
+    ap (λ (w : Way). is_turn_of n.user n.number w s.event) (same_ways n.way Mail parts.1) ∙ ap (λ (v : UserId). is_mail_turn_of v s.event) (same_user n.user u parts.0)
 
 -- where the event is no mail turn of the user, all rows stay
 pub batch_rows-no_turn : (j : List Stamped) (s : Stamped) (u : UserId) → is_mail_turn_of u s.event ≡ false → batch_rows (j ++ s ∷ []) u ≡ filter (λ n. is_ready_mail_of j u n || is_readied j s u n) (waiting j)

@@ -1,18 +1,19 @@
 -- What turns hand over: the items of the outbox are the notices that stand as handed.
-use Rattle.std.proofs.Common.{◌≡◌, ℕ, ◌+◌, ◌<◌, Bool, true, false, ◌&&◌, ◌==◌, eqb, cond, List, [], ◌∷◌, ◌++◌, length, map, refl, sym, ap, ◌∙◌, arith}
-use Rattle.std.specs.Prelude.{Option, Some, None, sum_by, if◌then◌else◌}
+use Rattle.std.proofs.Common.{◌≡◌, ℕ, ◌+◌, ◌<◌, Bool, true, false, ◌&&◌, ◌==◌, cond, List, [], ◌∷◌, ◌++◌, length, map, refl, sym, ap, ◌∙◌, arith}
+use Rattle.std.specs.Prelude.{sum_by, if◌then◌else◌}
 use Rattle.std.specs.List.{AllByRecursion}
 use Rattle.std.specs.Option.{option_map_or}
-use Rattle.std.proofs.lemmas.List.Sums.{sum_by-append}
-use Rattle.std.proofs.lemmas.Bool.Decides.{nat_tests}
+use Rattle.std.proofs.lemmas.List.Sums.{sum_by-append, sum_by-cons}
 use Rattle.chat_model.specs.declared.event.Stamped.{Stamped}
 use Rattle.chat_model.specs.declared.event.Event.{Event}
-use Rattle.chat_model.specs.declared.event.Event.TheVariants.{MailTurn}
+use Rattle.chat_model.specs.declared.event.Event.TheVariants.{MailTurn, PushTurn}
 use Rattle.chat_model.specs.declared.entry.Conversation.{Conversation}
 use Rattle.chat_model.specs.declared.entry.Entry.{Entry}
 use Rattle.chat_model.specs.declared.entry.Entry.TheVariants as entry
 use Rattle.chat_model.specs.declared.entry.Item.{Item}
 use Rattle.chat_model.specs.declared.ids.UserId.{UserId}
+use Rattle.chat_model.specs.declared.ids.MessageId.{MessageId}
+use Rattle.chat_model.specs.declared.push_item.PushItem.TheVariants.{Notify, Remove}
 use Rattle.chat_model.specs.declared.row.Cause.TheVariants.{SwitchedOff}
 use Rattle.chat_model.specs.declared.trigger.Way.{Way}
 use Rattle.chat_model.specs.declared.trigger.Way.TheVariants.{Mail, Push}
@@ -23,48 +24,22 @@ use Rattle.notice_ledger.specs.declared.accounts.Account.{Account}
 use Rattle.notice_ledger.specs.declared.accounts.Account.TheVariants.{NotOwed, Flight, Held, Ready, Handed, Cancelled, LiveQueue}
 use Rattle.notice_ledger.specs.Past.Journal.{occurrence}
 use Rattle.notice_ledger.specs.Past.Values.{user_name}
-use Rattle.notice_ledger.specs.Past.Owed.{Notice, same_way, notices, owed_by, is_turn_of, is_mail_turn_of, switch_on, decided, account_of, is_pending, waiting}
-use Rattle.notice_ledger.specs.Past.Outbox.{item, ready_item, mailed, mail_entries, entries_by, outbox}
+use Rattle.notice_ledger.specs.Past.Owed.{Notice, is_of, same_way, notices, owed_by, is_turn_of, switch_on, decided, account_of, account, is_handed, is_pending, waiting}
+use Rattle.notice_ledger.specs.Past.Outbox.{item, conversation, ready_item, mailed, mail_entries, pushed_item, push_entry, push_entries, entries_by, outbox}
 use Rattle.notice_ledger.specs.Past.Audit.{same_account}
-use Rattle.notice_ledger.proofs.Lists.{by_appending}
-use Rattle.notice_ledger.proofs.Same.{same_user}
+use Rattle.notice_ledger.specs.Lawful.{lawful}
+use Rattle.notice_ledger.proofs.Same.{same_user, eqb-turned}
+use Rattle.notice_ledger.proofs.Apart.{waiting-apart}
 use Rattle.notice_ledger.proofs.Appended.{notices-nil, notices-append, outbox-nil, outbox-append}
+use Rattle.notice_ledger.proofs.Found.{of_parts, only_found}
+use Rattle.notice_ledger.proofs.LawfulLemmas.{lawful-by_lawful_steps}
+use Rattle.notice_ledger.proofs.PushNotices.{IsReadyPush, ready_push, push_turn-of, push_entries-ready}
+use Rattle.notice_ledger.proofs.PushesWait.{turn-ready}
 use Rattle.notice_ledger.proofs.Standing.{is_turn, is_readying, is_clearing, is_dealing, moved, moved_by, account_of-append}
+use Rattle.notice_ledger.proofs.Turned.{IsTurnReady, turn-user, no_turn}
 use Rattle.notice_ledger.proofs.Waiting.{IsOwedBy, owed_by-each, notices-placed, account_of-new, waiting-pending}
 use Rattle.notice_ledger.proofs.Batches.{is_ready_mail_of, mailed-waiting, mailed-once}
-use Rattle.notice_ledger.proofs.Sums.{sum_by_same_where, sum_by_none_where, sum_by_both_where, sum_by-map, sum_by-filter}
-
--- the notice stands as handed
-abbrev pub is_handed : Account → Bool
-is_handed account = same_account account Handed
-
-pub eqb-turned : (a b : ℕ) → eqb a b ≡ eqb b a
-eqb-turned a b = grind (arith, nat_tests)
-
-pub plus_none : (n : ℕ) → n ≡ n + 0
-plus_none n = omega arith
-
-pub none_plus : (n : ℕ) → n ≡ 0 + n
-none_plus n = omega arith
-
--- ---- the user whose mail turn an event is
-
-abbrev pub turned_user : Event → Option UserId
-turned_user (MailTurn u) = Some u
-turned_user _ = None
-
-pub mail_turn-user : (u : UserId) (e : Event) → is_mail_turn_of u e ≡ option_map_or (λ v. v.0 == u.0) (turned_user e) false
-mail_turn-user u (MailTurn v) = refl
-mail_turn-user u e = refl
-
-pub entries_by-user : (j : List Stamped) (at : ℕ) (e : Event) → entries_by j at e ≡ option_map_or (mail_entries j at) (turned_user e) []
-entries_by-user j at (MailTurn v) = refl
-entries_by-user j at e = refl
-
--- a push has no turn yet
-pub turn-user : (u : UserId) (w : Way) (e : Event) → is_turn_of u w e ≡ (same_way w Mail && option_map_or (λ v. v.0 == u.0) (turned_user e) false)
-turn-user u Mail e = mail_turn-user u e
-turn-user u Push e = refl
+use Rattle.notice_ledger.proofs.Sums.{sum_by_same_where, sum_by_none_where, sum_by_both_where, sum_by-map, sum_by-filter, plus_none, none_plus}
 
 -- ---- what an event hands over
 
@@ -103,44 +78,56 @@ handed_at_turn rd cl dl on Handed h = absurd (cc)
 handed_at_turn rd cl dl on (Cancelled cause) h = absurd (cc)
 handed_at_turn rd cl dl on LiveQueue h = absurd (cc)
 
+-- no notice is handed over by an event that is no turn of it
+nothing_handed : (j : List Stamped) (s : Stamped) (n : Notice) → is_pending (account_of j n) ≡ true → is_turn s n ≡ false → is_handed_by j s n ≡ false
+nothing_handed j s n pending other =
+    ap (λ t. is_handed (moved_by t (is_readying s n) (is_clearing s n) (is_dealing s n) (decided n (occurrence j s)) (account_of j n))) other
+    ∙ not_handed (is_readying s n) (is_clearing s n) (is_dealing s n) (decided n (occurrence j s)) (account_of j n) pending
+
 -- an entry counts for as much as its items, and an item for as much as its notice
-module _ (f : Entry → ℕ) (h : UserId → Item → ℕ) (g : Notice → ℕ)
+module _ (f : Entry → ℕ) (h k : UserId → Item → ℕ) (g : Notice → ℕ)
     (of_items : (u : UserId) (name : List ℕ) (at : ℕ) (c : Conversation) (items : List Item) → f (entry.Mail u name at c items) ≡ sum_by (h u) items)
-    (fits : (j : List Stamped) (n : Notice) → n.way ≡ Mail → h n.user (item j n) ≡ g n) where
-  -- a waiting notice counts where the event hands it over
-  one_handed : (j : List Stamped) (s : Stamped) (v : UserId) → turned_user s.event ≡ Some v → (n : Notice) → is_pending (account_of j n) ≡ true
-      → cond (is_ready_mail_of j v n) (cond (switch_on j v Mail) (h v (item j n)) 0) 0 ≡ cond (is_handed_by j s n) (g n) 0
-  one_handed j s v turned n pending = by n.way refl (n.user.0 == v.0) refl
+    (of_push : (u : UserId) (name : List ℕ) (at : ℕ) (c : Conversation) (i : Item) → f (entry.Push u name at c i) ≡ k u i)
+    (fits : (j : List Stamped) (n : Notice) → n.way ≡ Mail → h n.user (item j n) ≡ g n)
+    (fits_push : (j : List Stamped) (n : Notice) → n.way ≡ Push → k n.user (pushed_item j n) ≡ g n) where
+  -- no entry is made where the event is a turn of no notice that waits
+  none_handed : (j : List Stamped) (s : Stamped) → ((n : Notice) → is_turn s n ≡ false) → 0 ≡ sum_by (λ n. cond (is_handed_by j s n) (g n) 0) (waiting j)
+  none_handed j s never =
+      sym (sum_by_none_where (λ n. is_pending (account_of j n) ≡ true) (λ n. cond (is_handed_by j s n) (g n) 0)
+      (λ n pending. ap (λ t. cond t (g n) 0) (nothing_handed j s n pending (never n))) (waiting j) (waiting-pending j))
+
+  -- ---- a mail turn
+
+  -- a waiting notice counts where the turn hands it over
+  one_mailed : (j : List Stamped) (at : ℕ) (v : UserId) (n : Notice) → is_pending (account_of j n) ≡ true
+      → cond (is_ready_mail_of j v n) (cond (switch_on j v Mail) (h v (item j n)) 0) 0 ≡ cond (is_handed_by j (record { at = at; event = MailTurn v }) n) (g n) 0
+  one_mailed j at v n pending = by n.way refl (n.user.0 == v.0) refl
     where
-      goal : Bool → Bool → Type 0
-      goal mail handed = cond (mail && same_account (account_of j n) Ready) (cond (switch_on j v Mail) (h v (item j n)) 0) 0 ≡ cond handed (g n) 0
+      s : Stamped
+      s = record { at = at; event = MailTurn v }
 
-      its_turn : is_turn s n ≡ (same_way n.way Mail && v.0 == n.user.0)
-      its_turn = turn-user n.user n.way s.event ∙ ap (λ (o : Option UserId). same_way n.way Mail && option_map_or (λ v. v.0 == n.user.0) o false) turned
-
-      nothing : is_turn s n ≡ false → is_handed_by j s n ≡ false
-      nothing e =
-          ap (λ t. is_handed (moved_by t (is_readying s n) (is_clearing s n) (is_dealing s n) (decided n (occurrence j s)) (account_of j n))) e
-          ∙ not_handed (is_readying s n) (is_clearing s n) (is_dealing s n) (decided n (occurrence j s)) (account_of j n) pending
+      its_turn : is_turn (record { at = at; event = MailTurn v }) n ≡ (same_way n.way Mail && v.0 == n.user.0)
+      its_turn = turn-user n.user n.number n.way (MailTurn v) refl
 
       counted : (ready on : Bool) → h v (item j n) ≡ g n → cond (true && ready) (cond on (h v (item j n)) 0) 0 ≡ cond (ready && on) (g n) 0
       counted true true e = e
       counted true false e = refl
       counted false on e = refl
 
-      by : (w : Way) → n.way ≡ w → (b : Bool) → n.user.0 == v.0 ≡ b → cond (is_ready_mail_of j v n) (cond (switch_on j v Mail) (h v (item j n)) 0) 0 ≡ cond (is_handed_by j s n) (g n) 0
+      by : (w : Way) → n.way ≡ w → (b : Bool) → n.user.0 == v.0 ≡ b → cond (is_ready_mail_of j v n) (cond (switch_on j v Mail) (h v (item j n)) 0) 0 ≡ cond (is_handed_by j (record { at = at; event = MailTurn v }) n) (g n) 0
       by Push way b user =
           (λ i. cond ((user i && same_way (way i) Mail) && same_account (account_of j n) Ready) (cond (switch_on j v Mail) (h v (item j n)) 0) 0)
           ∙ (never b
-          ∙ ap (λ t. cond t (g n) 0) (sym (nothing (its_turn ∙ ap (λ (x : Way). same_way x Mail && v.0 == n.user.0) way))))
+          ∙ ap (λ t. cond t (g n) 0) (sym (nothing_handed j (record { at = at; event = MailTurn v }) n pending (its_turn ∙ ap (λ (x : Way). same_way x Mail && v.0 == n.user.0) way))))
         where
           never : (b : Bool) → cond ((b && false) && same_account (account_of j n) Ready) (cond (switch_on j v Mail) (h v (item j n)) 0) 0 ≡ 0
           never true = refl
           never false = refl
       by Mail way false user =
           (λ i. cond ((user i && same_way (way i) Mail) && same_account (account_of j n) Ready) (cond (switch_on j v Mail) (h v (item j n)) 0) 0)
-          ∙ ap (λ t. cond t (g n) 0) (sym (nothing (its_turn ∙ (ap (λ (x : Way). same_way x Mail && v.0 == n.user.0) way ∙ (eqb-turned v.0 n.user.0 ∙ user)))))
+          ∙ ap (λ t. cond t (g n) 0) (sym (nothing_handed j (record { at = at; event = MailTurn v }) n pending (its_turn ∙ (ap (λ (x : Way). same_way x Mail && v.0 == n.user.0) way ∙ (eqb-turned v.0 n.user.0 ∙ user)))))
       by Mail way true user =
+          let s : Stamped = record { at = at; event = MailTurn v } in
           let turn : is_turn s n ≡ true = its_turn ∙ (ap (λ (x : Way). same_way x Mail && v.0 == n.user.0) way ∙ (eqb-turned v.0 n.user.0 ∙ user)) in
           let on : switch_on j n.user n.way ≡ switch_on j v Mail = ap (λ (x : Way). switch_on j n.user x) way ∙ ap (λ (u : UserId). switch_on j u Mail) (same_user n.user v user) in
           (λ i. cond ((user i && same_way (way i) Mail) && same_account (account_of j n) Ready) (cond (switch_on j v Mail) (h v (item j n)) 0) 0)
@@ -162,47 +149,88 @@ module _ (f : Entry → ℕ) (h : UserId → Item → ℕ) (g : Notice → ℕ)
           all [] = tt
           all (n ∷ ns) = (tt, all ns)
 
-  -- the entries that an event makes
-  pub entries_by-handed : (j : List Stamped) (s : Stamped) → sum_by f (entries_by j s.at s.event) ≡ sum_by (λ n. cond (is_handed_by j s n) (g n) 0) (waiting j)
-  entries_by-handed j s = ap (sum_by f) (entries_by-user j s.at s.event) ∙ by (turned_user s.event) refl
-    where
-      by : (o : Option UserId) → turned_user s.event ≡ o → sum_by f (option_map_or (mail_entries j s.at) o []) ≡ sum_by (λ n. cond (is_handed_by j s n) (g n) 0) (waiting j)
-      by None e =
-          sym (sum_by_none_where (λ n. is_pending (account_of j n) ≡ true) (λ n. cond (is_handed_by j s n) (g n) 0)
-          (λ n pending.
-          let no_turn : is_turn s n ≡ false = turn-user n.user n.way s.event ∙ (ap (λ (o : Option UserId). same_way n.way Mail && option_map_or (λ v. v.0 == n.user.0) o false) e ∙ ends_false (same_way n.way Mail)) in
-          ap (λ t. cond t (g n) 0) (
-          ap (λ t. is_handed (moved_by t (is_readying s n) (is_clearing s n) (is_dealing s n) (decided n (occurrence j s)) (account_of j n))) no_turn
-          ∙ not_handed (is_readying s n) (is_clearing s n) (is_dealing s n) (decided n (occurrence j s)) (account_of j n) pending))
-          (waiting j) (waiting-pending j))
-        where
-          ends_false : (b : Bool) → (b && false) ≡ false
-          ends_false true = refl
-          ends_false false = refl
-      by (Some v) e =
-          entries_sum j s.at v (switch_on j v Mail)
-          ∙ (ap (sum_by (λ n. cond (switch_on j v Mail) (h v (item j n)) 0)) (mailed-waiting j v)
-          ∙ (sum_by-filter (λ n. cond (switch_on j v Mail) (h v (item j n)) 0) (is_ready_mail_of j v) (waiting j)
-          ∙ sum_by_same_where (λ n. is_pending (account_of j n) ≡ true)
-          (λ n. cond (is_ready_mail_of j v n) (cond (switch_on j v Mail) (h v (item j n)) 0) 0)
-          (λ n. cond (is_handed_by j s n) (g n) 0) (one_handed j s v e) (waiting j) (waiting-pending j)))
+  mail_handed : (j : List Stamped) (at : ℕ) (v : UserId) → sum_by f (mail_entries j at v) ≡ sum_by (λ n. cond (is_handed_by j (record { at = at; event = MailTurn v }) n) (g n) 0) (waiting j)
+  mail_handed j at v =
+      entries_sum j at v (switch_on j v Mail)
+      ∙ (ap (sum_by (λ n. cond (switch_on j v Mail) (h v (item j n)) 0)) (mailed-waiting j v)
+      ∙ (sum_by-filter (λ n. cond (switch_on j v Mail) (h v (item j n)) 0) (is_ready_mail_of j v) (waiting j)
+      ∙ sum_by_same_where (λ n. is_pending (account_of j n) ≡ true)
+      (λ n. cond (is_ready_mail_of j v n) (cond (switch_on j v Mail) (h v (item j n)) 0) 0)
+      (λ n. cond (is_handed_by j (record { at = at; event = MailTurn v }) n) (g n) 0) (one_mailed j at v) (waiting j) (waiting-pending j)))
 
-  waiting-sum : (k : Notice → ℕ) (j : List Stamped) → sum_by k (waiting j) ≡ sum_by (λ n. cond (is_pending (account_of j n)) (k n) 0) (notices j)
+  -- ---- a push turn
+
+  -- a waiting notice counts where it is the one whose turn it is
+  one_pushed : (j : List Stamped) (at : ℕ) (u : UserId) (m : MessageId) (n : Notice) → is_pending (account_of j n) ≡ true
+      → cond (is_handed_by j (record { at = at; event = PushTurn (Notify u m) }) n) (g n) 0 ≡ cond (is_of u m Push n) (cond (same_account (account_of j n) Ready && switch_on j u Push) (g n) 0) 0
+  one_pushed j at u m n pending = by (is_of u m Push n) refl
+    where
+      by : (b : Bool) → is_of u m Push n ≡ b → cond (is_handed_by j (record { at = at; event = PushTurn (Notify u m) }) n) (g n) 0 ≡ cond b (cond (same_account (account_of j n) Ready && switch_on j u Push) (g n) 0) 0
+      by false other = ap (λ t. cond t (g n) 0) (nothing_handed j (record { at = at; event = PushTurn (Notify u m) }) n pending (push_turn-of at u m n ∙ other))
+      by true it =
+          let s : Stamped = record { at = at; event = PushTurn (Notify u m) } in
+          let is = of_parts u m Push n it in
+          let turn : is_turn s n ≡ true = push_turn-of at u m n ∙ it in
+          let on : switch_on j n.user n.way ≡ switch_on j u Push = ap (λ (x : Way). switch_on j n.user x) is.way ∙ ap (λ (v : UserId). switch_on j v Push) is.user in
+          ap (λ t. cond t (g n) 0) (
+          (λ i. is_handed (moved_by (turn i) (is_readying s n) (is_clearing s n) (is_dealing s n) (if on i then Handed else Cancelled SwitchedOff) (account_of j n)))
+          ∙ handed_at_turn (is_readying s n) (is_clearing s n) (is_dealing s n) (switch_on j u Push) (account_of j n) pending)
+
+  push_handed : (j : List Stamped) (at : ℕ) (u : UserId) (m : MessageId) → account j u m Push ≡ Ready
+      → sum_by f (push_entries j at (Notify u m)) ≡ sum_by (λ n. cond (is_handed_by j (record { at = at; event = PushTurn (Notify u m) }) n) (g n) 0) (waiting j)
+  push_handed j at u m ready =
+      let found = ready_push j u m ready in
+      let n = found.0 in
+      let counts : Notice → ℕ = λ b. cond (same_account (account_of j b) Ready && switch_on j u Push) (g b) 0 in
+      ap (sum_by f) (push_entries-ready j at u m n found.1)
+      ∙ (one_entry n found.1 (switch_on j u Push)
+      ∙ (ap (λ a. cond (same_account a Ready && switch_on j u Push) (g n) 0) (sym found.1.ready)
+      ∙ (ap (λ o. option_map_or counts o 0) (sym found.1.waits)
+      ∙ (sym (only_found u m Push counts (waiting j) (waiting-apart j))
+      ∙ sym (sum_by_same_where (λ n. is_pending (account_of j n) ≡ true)
+      (λ n. cond (is_handed_by j (record { at = at; event = PushTurn (Notify u m) }) n) (g n) 0)
+      (λ n. cond (is_of u m Push n) (counts n) 0) (one_pushed j at u m) (waiting j) (waiting-pending j))))))
+    where
+      one_entry : (n : Notice) → IsReadyPush j u m n → (on : Bool) → sum_by f (if on then push_entry j at n ∷ [] else []) ≡ cond on (g n) 0
+      one_entry n is true =
+          sum_by-cons f (push_entry j at n) []
+          ∙ (ap (λ c. c + 0) (of_push n.user (user_name j n.user) at (conversation j n) (pushed_item j n) ∙ fits_push j n is.is.way) ∙ sym (plus_none (g n)))
+      one_entry n is false = refl
+
+  -- ---- every event
+
+  handed_by : (j : List Stamped) (at : ℕ) (e : Event) → IsTurnReady j e → sum_by f (entries_by j at e) ≡ sum_by (λ n. cond (is_handed_by j (record { at = at; event = e }) n) (g n) 0) (waiting j)
+  handed_by j at (MailTurn v) ready = mail_handed j at v
+  handed_by j at (PushTurn (Notify u m)) ready = push_handed j at u m ready
+  handed_by j at (PushTurn (Remove u ms)) ready = none_handed j (record { at = at; event = PushTurn (Remove u ms) }) (λ n. no_removal n.user n.number n.way)
+    where
+      no_removal : (v : UserId) (k : MessageId) (w : Way) → is_turn_of v k w (PushTurn (Remove u ms)) ≡ false
+      no_removal v k Mail = refl
+      no_removal v k Push = refl
+  handed_by j at e ready = none_handed j (record { at = at; event = e }) (λ n. no_turn n.user n.number n.way e refl refl)
+
+  -- the entries that an event makes
+  pub entries_by-handed : (j : List Stamped) (s : Stamped) → IsTurnReady j s.event → sum_by f (entries_by j s.at s.event) ≡ sum_by (λ n. cond (is_handed_by j s n) (g n) 0) (waiting j)
+  entries_by-handed j s ready = handed_by j s.at s.event ready
+
+  waiting-sum : (c : Notice → ℕ) (j : List Stamped) → sum_by c (waiting j) ≡ sum_by (λ n. cond (is_pending (account_of j n)) (c n) 0) (notices j)
   unfolding waiting
-  waiting-sum k j = sum_by-filter k (λ n. is_pending (account_of j n)) (notices j)
+  waiting-sum c j = sum_by-filter c (λ n. is_pending (account_of j n)) (notices j)
 
   -- a notice is handed from the event on that hands it over
-  handed_later : (tn rd cl dl : Bool) (decision a : Account) (k : ℕ) → cond (is_handed (moved_by tn rd cl dl decision a)) k 0 ≡ cond (is_handed a) k 0 + cond (is_pending a) (cond (is_handed (moved_by tn rd cl dl decision a)) k 0) 0
-  handed_later tn rd cl dl decision Flight k = none_plus (cond (is_handed (moved_by tn rd cl dl decision Flight)) k 0)
-  handed_later tn rd cl dl decision Held k = none_plus (cond (is_handed (moved_by tn rd cl dl decision Held)) k 0)
-  handed_later tn rd cl dl decision Ready k = none_plus (cond (is_handed (moved_by tn rd cl dl decision Ready)) k 0)
-  handed_later tn rd cl dl decision a k = plus_none (cond (is_handed a) k 0)
+  handed_later : (tn rd cl dl : Bool) (decision a : Account) (c : ℕ) → cond (is_handed (moved_by tn rd cl dl decision a)) c 0 ≡ cond (is_handed a) c 0 + cond (is_pending a) (cond (is_handed (moved_by tn rd cl dl decision a)) c 0) 0
+  handed_later tn rd cl dl decision Flight c = none_plus (cond (is_handed (moved_by tn rd cl dl decision Flight)) c 0)
+  handed_later tn rd cl dl decision Held c = none_plus (cond (is_handed (moved_by tn rd cl dl decision Held)) c 0)
+  handed_later tn rd cl dl decision Ready c = none_plus (cond (is_handed (moved_by tn rd cl dl decision Ready)) c 0)
+  handed_later tn rd cl dl decision a c = plus_none (cond (is_handed a) c 0)
 
   -- the items of the outbox are the notices that were handed over
-  pub outbox-handed : (j : List Stamped) → sum_by f (outbox j) ≡ sum_by (λ n. cond (is_handed (account_of j n)) (g n) 0) (notices j)
-  outbox-handed = by_appending (λ j. sum_by f (outbox j) ≡ sum_by (λ n. cond (is_handed (account_of j n)) (g n) 0) (notices j))
-      (ap (sum_by f) outbox-nil ∙ sym (ap (sum_by (λ n. cond (is_handed (account_of [] n)) (g n) 0)) notices-nil))
-      (λ j s before_it.
+  AreItemsHanded : List Stamped → Type 0
+  AreItemsHanded j = sum_by f (outbox j) ≡ sum_by (λ n. cond (is_handed (account_of j n)) (g n) 0) (notices j)
+
+  one_more : (j : List Stamped) (s : Stamped) → IsTurnReady j s.event → AreItemsHanded j → AreItemsHanded (j ++ s ∷ [])
+  unfolding AreItemsHanded
+  one_more j s ready before_it =
       let later = λ (n : Notice). cond (is_handed (account_of (j ++ s ∷ []) n)) (g n) 0 in
       let before = λ (n : Notice). cond (is_handed (account_of j n)) (g n) 0 in
       let now = λ (n : Notice). cond (is_handed_by j s n) (g n) 0 in
@@ -216,5 +244,13 @@ module _ (f : Entry → ℕ) (h : UserId → Item → ℕ) (g : Notice → ℕ)
       sum_by_none_where (IsOwedBy (occurrence j s)) later (λ n owed. ap (λ a. cond (is_handed a) (g n) 0) (account_of-new j s n owed)) (owed_by (occurrence j s)) (owed_by-each (occurrence j s)) in
       let all = ap (sum_by later) (notices-append j s) ∙ sum_by-append later (notices j) (owed_by (occurrence j s)) in
       let es = ap (sum_by f) (outbox-append j s) ∙ sum_by-append f (outbox j) (entries_by j s.at s.event) in
-      let more = entries_by-handed j s ∙ waiting-sum now j in
-      omega arith)
+      let more = entries_by-handed j s ready ∙ waiting-sum now j in
+      omega arith
+
+  -- so it is after lawful events, since each push turn of these is that of a ready notice
+  pub outbox-handed : (j : List Stamped) → sum_by f (outbox (lawful j)) ≡ sum_by (λ n. cond (is_handed (account_of (lawful j) n)) (g n) 0) (notices (lawful j))
+  unfolding AreItemsHanded
+  outbox-handed j =
+      lawful-by_lawful_steps AreItemsHanded
+      (ap (sum_by f) outbox-nil ∙ sym (ap (sum_by (λ n. cond (is_handed (account_of [] n)) (g n) 0)) notices-nil))
+      (λ j s is_lawful before_it next. one_more j s (turn-ready j s is_lawful next) before_it) j

@@ -59,6 +59,12 @@ lawful-by_steps P start step j = steps [] j start
         by true next rest = rest (kept ++ s ∷ []) (step kept s h next)
         by false next rest = rest kept h
 
+-- where the step may also use that the events before it are lawful
+pub lawful-by_lawful_steps : (P : List Stamped → Type 0) → P [] → ((j : List Stamped) (s : Stamped) → IsLawful j → P j → past.is_lawful_after j s ≡ true → P (j ++ s ∷ [])) → (j : List Stamped) → P (lawful j)
+lawful-by_lawful_steps P start step j =
+    (lawful-by_steps (λ k. IsLawful k × P k) (IsLawful-nil, start) (λ k s h next.
+    (IsLawful-append k s h.0 (ap (λ l. past.is_lawful_after l s) h.0 ∙ next), step k s h.0 h.1 next)) j).1
+
 -- an event that is lawful behind the lawful events is kept, and another isn't
 pub kept-lawful : (j : List Stamped) (s : Stamped) (kept : List Stamped) → kept ≡ lawful j → past.is_lawful_after kept s ≡ true → kept ++ s ∷ [] ≡ lawful (j ++ s ∷ [])
 kept-lawful j s kept so_far next =

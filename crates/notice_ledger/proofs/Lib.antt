@@ -4,12 +4,19 @@ pub mod Behind
 pub mod Standing
 pub mod Same
 pub mod SettingLemmas
+pub mod Turned
+pub mod Found
+pub mod PushNotices
+pub mod PushItems
+pub mod PushesWait
 pub mod Handed
 pub mod Waiting
 pub mod Ascending
 pub mod Batches
 pub mod StagesAfter
 pub mod Audited
+pub mod PushTurns
+pub mod ActiveRows
 pub mod Sent
 pub mod DealLemmas
 pub mod RunLemmas
@@ -32,6 +39,7 @@ pub mod TurnLemmas
 pub mod AscendingSteps
 pub mod SlowLemmas
 pub mod SlowEntries
+pub mod SlowPushes
 pub mod OneMore
 pub mod Conservation
 pub mod PendingChanges

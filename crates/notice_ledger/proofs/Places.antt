@@ -1,9 +1,7 @@
 -- Where the notice of one user, message and way stands: among those that wait, in the outbox, or cancelled.
-use Rattle.std.proofs.Common.{◌≡◌, ◌≢◌, ℕ, ◌+◌, Bool, true, false, ◌&&◌, ◌==◌, cond, List, [], ◌∷◌, refl, sym, ap, ◌∙◌}
+use Rattle.std.proofs.Common.{◌≡◌, ◌≢◌, ℕ, ◌+◌, Bool, true, false, ◌&&◌, ◌==◌, cond, List, refl, sym, ap, ◌∙◌}
 use Rattle.std.specs.Prelude.{Option, Some, None, find, sum_by, count_by, if◌then◌else◌}
 use Rattle.std.specs.Option.{option_map_or}
-use Rattle.std.proofs.lemmas.List.Sums.{sum_by-cons}
-use Rattle.std.proofs.lemmas.Bool.{and_parts}
 use Rattle.chat_model.specs.declared.event.Stamped.{Stamped}
 use Rattle.chat_model.specs.declared.entry.Conversation.{Conversation}
 use Rattle.chat_model.specs.declared.entry.Entry.TheVariants as entry
@@ -14,12 +12,13 @@ use Rattle.chat_model.specs.declared.trigger.Way.{Way}
 use Rattle.chat_model.specs.declared.trigger.Way.TheVariants.{Mail, Push}
 use Rattle.notice_ledger.specs.declared.accounts.Account.{Account}
 use Rattle.notice_ledger.specs.declared.accounts.Account.TheVariants.{NotOwed, Flight, Held, Ready, Handed, Cancelled, LiveQueue}
-use Rattle.notice_ledger.specs.Past.Owed.{Notice, is_of, same_way, notices, account_of, account, is_cancelled, is_pending, waiting}
-use Rattle.notice_ledger.specs.Past.Outbox.{item, outbox}
+use Rattle.notice_ledger.specs.Past.Owed.{Notice, is_of, same_way, notices, account_of, account, is_handed, is_cancelled, is_pending, waiting}
+use Rattle.notice_ledger.specs.Past.Outbox.{item, pushed_item, outbox}
 use Rattle.notice_ledger.specs.Conserved.{items_of}
-use Rattle.notice_ledger.proofs.Apart.{Pairwise, AllByRecursion-from_all, Differ, notices-apart}
-use Rattle.notice_ledger.proofs.Handed.{is_handed, outbox-handed, plus_none, none_plus}
-use Rattle.notice_ledger.proofs.Same.{same_user, same_message, same_ways}
+use Rattle.notice_ledger.specs.Lawful.{lawful}
+use Rattle.notice_ledger.proofs.Apart.{AllByRecursion-from_all, notices-apart}
+use Rattle.notice_ledger.proofs.Found.{only_found}
+use Rattle.notice_ledger.proofs.Handed.{outbox-handed}
 use Rattle.notice_ledger.proofs.Standing.{account_of-owed}
 use Rattle.notice_ledger.proofs.Sums.{sum_by_same, sum_by_none_where, sum_by_both_where, sum_by-filter}
 
@@ -28,12 +27,12 @@ abbrev pub placed : Account → ℕ
 placed account = cond (is_pending account) 1 0 + cond (is_handed account) 1 0
 
 module _ (u : UserId) (m : MessageId) (w : Way) where
-  -- 1 where an item for a user is of it
-  of_it : UserId → Item → ℕ
-  of_it v i = cond (v.0 == u.0 && i.message.0 == m.0 && same_way Mail w) 1 0
+  -- 1 where an item for a user by a way is of it
+  of_it : Way → UserId → Item → ℕ
+  of_it x v i = cond (v.0 == u.0 && i.message.0 == m.0 && same_way x w) 1 0
 
   -- an entry has as many of it as its items
-  entry_items : (v : UserId) (name : List ℕ) (at : ℕ) (c : Conversation) (items : List Item) → items_of u m w (entry.Mail v name at c items) ≡ sum_by (of_it v) items
+  entry_items : (v : UserId) (name : List ℕ) (at : ℕ) (c : Conversation) (items : List Item) → items_of u m w (entry.Mail v name at c items) ≡ sum_by (of_it Mail v) items
   unfolding of_it
   entry_items v name at c items = by w
     where
@@ -62,10 +61,31 @@ module _ (u : UserId) (m : MessageId) (w : Way) where
           ]
       by Push = none (v.0 == u.0) items
 
-  -- a mail notice's item is one of it
-  item_of : (j : List Stamped) (n : Notice) → n.way ≡ Mail → of_it n.user (item j n) ≡ cond (is_of u m w n) 1 0
+  -- a push entry has one item
+  push_items : (v : UserId) (name : List ℕ) (at : ℕ) (c : Conversation) (i : Item) → items_of u m w (entry.Push v name at c i) ≡ of_it Push v i
   unfolding of_it
-  item_of j n e = ap (λ (x : Way). cond (n.user.0 == u.0 && n.number.0 == m.0 && same_way x w) 1 0) (sym e)
+  push_items v name at c i = by w
+    where
+      whole : (d : Bool) → ◌≡◌ {A = ℕ} (if d then 1 else 0) (cond (d && true) 1 0)
+      whole true = refl
+      whole false = refl
+
+      none : (d : Bool) → ◌≡◌ {A = ℕ} 0 (cond (d && false) 1 0)
+      none true = refl
+      none false = refl
+
+      by : (x : Way) → items_of u m x (entry.Push v name at c i) ≡ cond (v.0 == u.0 && i.message.0 == m.0 && same_way Push x) 1 0
+      by Mail = none (v.0 == u.0 && i.message.0 == m.0)
+      by Push = whole (v.0 == u.0 && i.message.0 == m.0)
+
+  -- the item of a notice is one of it
+  mail_item : (j : List Stamped) (n : Notice) → n.way ≡ Mail → of_it Mail n.user (item j n) ≡ cond (is_of u m w n) 1 0
+  unfolding of_it
+  mail_item j n e = ap (λ (x : Way). cond (n.user.0 == u.0 && n.number.0 == m.0 && same_way x w) 1 0) (sym e)
+
+  push_item : (j : List Stamped) (n : Notice) → n.way ≡ Push → of_it Push n.user (pushed_item j n) ≡ cond (is_of u m w n) 1 0
+  unfolding of_it
+  push_item j n e = ap (λ (x : Way). cond (n.user.0 == u.0 && n.number.0 == m.0 && same_way x w) 1 0) (sym e)
 
   pub waiting_sum : (j : List Stamped) → count_by (is_of u m w) (waiting j) ≡ sum_by (λ n. cond (is_pending (account_of j n)) (cond (is_of u m w n) 1 0) 0) (notices j)
   unfolding waiting
@@ -82,38 +102,19 @@ module _ (u : UserId) (m : MessageId) (w : Way) where
       none_both false false = refl
 
   -- the notices that wait and the items in the outbox
-  waiting-outbox : (j : List Stamped) → count_by (is_of u m w) (waiting j) + sum_by (items_of u m w) (outbox j) ≡ sum_by (λ n. cond (is_of u m w n) (placed (account_of j n)) 0) (notices j)
+  waiting-outbox : (j : List Stamped) → count_by (is_of u m w) (waiting (lawful j)) + sum_by (items_of u m w) (outbox (lawful j)) ≡ sum_by (λ n. cond (is_of u m w n) (placed (account_of (lawful j) n)) 0) (notices (lawful j))
   waiting-outbox j =
-      ap (λ a. a + sum_by (items_of u m w) (outbox j)) (waiting_sum j)
-      ∙ (ap (λ b. sum_by (λ n. cond (is_pending (account_of j n)) (cond (is_of u m w n) 1 0) 0) (notices j) + b) (outbox-handed (items_of u m w) of_it (λ n. cond (is_of u m w n) 1 0) entry_items item_of j)
-      ∙ sym (sum_by_both_where (λ _. Unit {0}) (λ n. cond (is_of u m w n) (placed (account_of j n)) 0)
-      (λ n. cond (is_pending (account_of j n)) (cond (is_of u m w n) 1 0) 0) (λ n. cond (is_handed (account_of j n)) (cond (is_of u m w n) 1 0) 0)
-      (λ n _. placed_parts (is_of u m w n) (account_of j n)) (notices j) (AllByRecursion-from_all (λ _. Unit {0}) (λ _. tt) (notices j))))
-
-  -- another notice is not of the user, message and way of this one
-  other_notice : (n b : Notice) → is_of u m w n ≡ true → Differ n b → is_of u m w b ≡ false
-  other_notice n b h d =
-      let parts = and_parts (n.user.0 == u.0 && n.number.0 == m.0) (same_way n.way w) h in
-      let numbers = and_parts (n.user.0 == u.0) (n.number.0 == m.0) parts.0 in
-      sym (ap (λ (x : UserId). is_of x n.number n.way b) (same_user n.user u numbers.0)
-      ∙ (ap (λ (x : MessageId). is_of u x n.way b) (same_message n.number m numbers.1) ∙ ap (λ (x : Way). is_of u m x b) (same_ways n.way w parts.1)))
-      ∙ d
-
-  -- of notices that differ at most one counts
-  only_found : (g : Notice → ℕ) (ns : List Notice) → Pairwise Differ ns → sum_by (λ n. cond (is_of u m w n) (g n) 0) ns ≡ option_map_or g (find (is_of u m w) ns) 0
-  only_found g [] p = refl
-  only_found g (n ∷ ns) p =
-      sum_by-cons (λ n. cond (is_of u m w n) (g n) 0) n ns
-      ∙ elim (is_of u m w n) as (λ b. is_of u m w n ≡ b → cond b (g n) 0 + sum_by (λ n. cond (is_of u m w n) (g n) 0) ns ≡ option_map_or g (cond b (Some n) (find (is_of u m w) ns)) 0) [
-        | true ↦ λ h.
-            ap (λ r. g n + r) (sum_by_none_where (Differ n) (λ n. cond (is_of u m w n) (g n) 0) (λ b d. ap (λ t. cond t (g b) 0) (other_notice n b h d)) ns p.0)
-            ∙ sym (plus_none (g n))
-        | false ↦ λ h. sym (none_plus (sum_by (λ n. cond (is_of u m w n) (g n) 0) ns)) ∙ only_found g ns p.1
-      ] refl
+      let k = lawful j in
+      let it : Notice → ℕ = λ n. cond (is_of u m w n) 1 0 in
+      ap (λ a. a + sum_by (items_of u m w) (outbox k)) (waiting_sum k)
+      ∙ (ap (λ b. sum_by (λ n. cond (is_pending (account_of k n)) (it n) 0) (notices k) + b) (outbox-handed (items_of u m w) (of_it Mail) (of_it Push) it entry_items push_items mail_item push_item j)
+      ∙ sym (sum_by_both_where (λ _. Unit {0}) (λ n. cond (is_of u m w n) (placed (account_of k n)) 0)
+      (λ n. cond (is_pending (account_of k n)) (it n) 0) (λ n. cond (is_handed (account_of k n)) (it n) 0)
+      (λ n _. placed_parts (is_of u m w n) (account_of k n)) (notices k) (AllByRecursion-from_all (λ _. Unit {0}) (λ _. tt) (notices k))))
 
   -- the notice waits or is one item of the outbox, where it isn't cancelled
-  pub places : (j : List Stamped) → count_by (is_of u m w) (waiting j) + sum_by (items_of u m w) (outbox j) ≡ option_map_or (λ n. placed (account_of j n)) (find (is_of u m w) (notices j)) 0
-  places j = waiting-outbox j ∙ only_found (λ n. placed (account_of j n)) (notices j) (notices-apart j)
+  pub places : (j : List Stamped) → count_by (is_of u m w) (waiting (lawful j)) + sum_by (items_of u m w) (outbox (lawful j)) ≡ option_map_or (λ n. placed (account_of (lawful j) n)) (find (is_of u m w) (notices (lawful j))) 0
+  places j = waiting-outbox j ∙ only_found u m w (λ n. placed (account_of (lawful j) n)) (notices (lawful j)) (notices-apart (lawful j))
 
   -- an owed notice has one place
   one_place : (a : Account) → a ≢ NotOwed → placed a + (if is_cancelled a then 1 else 0) ≡ 1
@@ -133,11 +134,11 @@ module _ (u : UserId) (m : MessageId) (w : Way) where
   no_place j None h = refl
   no_place j (Some n) h = absurd (account_of-owed j n h)
 
-  -- a notice that is owed waits, or is one item of the outbox, or is cancelled
-  pub places-owed : (j : List Stamped) → account j u m w ≢ NotOwed → (count_by (is_of u m w) (waiting j) + sum_by (items_of u m w) (outbox j)) + (if is_cancelled (account j u m w) then 1 else 0) ≡ 1
+  -- a notice that lawful events owe waits, or is one item of the outbox, or is cancelled
+  pub places-owed : (j : List Stamped) → account (lawful j) u m w ≢ NotOwed → (count_by (is_of u m w) (waiting (lawful j)) + sum_by (items_of u m w) (outbox (lawful j))) + (if is_cancelled (account (lawful j) u m w) then 1 else 0) ≡ 1
   places-owed j h =
-      ap (λ k. k + (if is_cancelled (account j u m w) then 1 else 0)) (places j) ∙ owed_place j (find (is_of u m w) (notices j)) h
+      ap (λ k. k + (if is_cancelled (account (lawful j) u m w) then 1 else 0)) (places j) ∙ owed_place (lawful j) (find (is_of u m w) (notices (lawful j))) h
 
   -- a notice that is not owed neither waits nor stands in the outbox
-  pub places-not_owed : (j : List Stamped) → account j u m w ≡ NotOwed → count_by (is_of u m w) (waiting j) + sum_by (items_of u m w) (outbox j) ≡ 0
-  places-not_owed j h = places j ∙ no_place j (find (is_of u m w) (notices j)) h
+  pub places-not_owed : (j : List Stamped) → account (lawful j) u m w ≡ NotOwed → count_by (is_of u m w) (waiting (lawful j)) + sum_by (items_of u m w) (outbox (lawful j)) ≡ 0
+  places-not_owed j h = places j ∙ no_place (lawful j) (find (is_of u m w) (notices (lawful j))) h

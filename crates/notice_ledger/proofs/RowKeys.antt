@@ -1,6 +1,6 @@
 -- No key stands twice among what has a row.
 use Rattle.std.proofs.Common.{◌≡◌, ◌≢◌, ℕ, ◌+◌, ◌<◌, Bool, true, false, ◌&&◌, ◌==◌, List, [], ◌∷◌, ◌++◌, refl, sym, ap, ◌∙◌, arith}
-use Rattle.std.specs.Prelude.{Option, Some, None, option_map}
+use Rattle.std.specs.Prelude.{Option, Some, None, option_map, if◌then◌else◌}
 use Rattle.std.specs.declared.cmp.Ordering.{Ordering}
 use Rattle.std.specs.declared.cmp.Ordering.TheVariants.{Less, Equal, Greater}
 use Rattle.std.specs.Ordering.{is_eq}
@@ -18,11 +18,12 @@ use Rattle.chat_model.specs.declared.row.Stage.{Stage}
 use Rattle.chat_model.specs.Rows.{key_cmp, key_of}
 use Rattle.chat_model.proofs.Keys.{same_key, users_ascend, messages_ascend, outbox_ascends}
 use Rattle.notice_ledger.specs.Past.Values.{Person, people, SentMessage, messages}
-use Rattle.notice_ledger.specs.Past.Owed.{Notice, notices, account_of, same_way}
+use Rattle.notice_ledger.specs.Past.Owed.{Notice, notices, account_of, same_way, is_handed}
 use Rattle.notice_ledger.specs.Past.Outbox.{outbox}
-use Rattle.notice_ledger.specs.Past.Rows.{user_rows_from, message_rows_from, outbox_rows_from, stage_of, pending_row, listed_rows}
+use Rattle.notice_ledger.specs.Past.Rows.{user_rows_from, message_rows_from, outbox_rows_from, stage_of, pending_row, active_row, listed_rows}
 use Rattle.notice_ledger.proofs.Lists.{AllByRecursion-append, AllByRecursion-weaker, AllByRecursion-filter_map}
 use Rattle.notice_ledger.proofs.Apart.{Pairwise, Pairwise-append, Differ, notices-apart}
+use Rattle.notice_ledger.proofs.Same.{same_ways}
 
 -- ---- keys
 
@@ -31,7 +32,8 @@ abbrev pub table : RowKey → ℕ
 table (key.User user) = 0
 table (key.Message message) = 1
 table (key.Pending user message way) = 2
-table (key.Outbox number) = 3
+table (key.Active user message) = 3
+table (key.Outbox number) = 4
 
 pub equal_from : (o : Ordering) → is_eq o ≡ true → o ≡ Equal
 equal_from Less h = absurd (cc)
@@ -132,7 +134,53 @@ pub pending_apart : (j : List Stamped) → Pairwise Apart (filter_map (pending_r
 pending_apart j = Pairwise-filter_map Differ Apart (pending_row j) (λ x y a b d ex ey.
     ap (λ k. is_eq (key_cmp k (key_of b))) (pending_row-key j x a ex) ∙ (ap (λ k. is_eq (key_cmp (notice_key x) k)) (pending_row-key j y b ey) ∙ keys_differ x y d)) (notices j) (notices-apart j)
 
--- ---- the four tables
+-- ---- active pushes
+
+abbrev push_key : Notice → RowKey
+push_key n = key.Active n.user n.number
+
+-- the key is that of the notice's push
+abbrev is_push_key_of : Notice → RowKey → Bool
+is_push_key_of n (key.Active u m) = u.0 == n.user.0 && m.0 == n.number.0 && true
+is_push_key_of n _ = false
+
+is_push_key_of-itself : (n : Notice) → is_push_key_of n (push_key n) ≡ true
+is_push_key_of-itself n =
+    ap (λ b. b && n.number.0 == n.number.0 && true) (eq-eqb n.user.0 n.user.0 refl) ∙ ap (λ b. b && true) (eq-eqb n.number.0 n.number.0 refl)
+
+push_keys_differ : (a b : Notice) → same_way a.way Push ≡ true → same_way b.way Push ≡ true → Differ a b → is_eq (key_cmp (push_key a) (push_key b)) ≡ false
+push_keys_differ a b push_a push_b d =
+    elim (is_eq (key_cmp (push_key a) (push_key b))) as (λ t. is_eq (key_cmp (push_key a) (push_key b)) ≡ t → t ≡ false) [
+      | true ↦ λ e. sym (is_push_key_of-itself a) ∙ (ap (is_push_key_of a) (same_key (push_key a) (push_key b) (equal_from (key_cmp (push_key a) (push_key b)) e)) ∙ apart)
+      | false ↦ λ e. refl
+    ] refl
+  where
+    both : same_way b.way a.way ≡ true
+    both = ap (same_way b.way) (same_ways a.way Push push_a) ∙ push_b
+
+    apart : (b.user.0 == a.user.0 && b.number.0 == a.number.0 && true) ≡ false
+    apart = ap (λ t. b.user.0 == a.user.0 && b.number.0 == a.number.0 && t) (sym both) ∙ d
+
+-- an active push's row has the push's key, and the notice is a push
+record IsActiveRow (n : Notice) (r : Row) : Type 0 where
+  push : same_way n.way Push ≡ true
+  row : r ≡ row.Active n.user n.number
+
+active_row-is : (j : List Stamped) (n : Notice) (r : Row) → active_row j n ≡ Some r → IsActiveRow n r
+active_row-is j n r e = by (same_way n.way Push) (is_handed (account_of j n)) refl e
+  where
+    by : (push handed : Bool) → same_way n.way Push ≡ push → (if push && handed then Some (row.Active n.user n.number) else None) ≡ Some r → IsActiveRow n r
+    by true true p h = record { push = p; row = cc }
+    by true false p h = absurd (cc)
+    by false handed p h = absurd (cc)
+
+pub active_apart : (j : List Stamped) → Pairwise Apart (filter_map (active_row j) (notices j))
+active_apart j = Pairwise-filter_map Differ Apart (active_row j) (λ x y a b d ex ey.
+    let at_x = active_row-is j x a ex in
+    let at_y = active_row-is j y b ey in
+    (λ i. is_eq (key_cmp (key_of (at_x.row i)) (key_of (at_y.row i)))) ∙ push_keys_differ x y at_x.push at_y.push d) (notices j) (notices-apart j)
+
+-- ---- the five tables
 
 -- rows of one table
 abbrev pub AreInTable : ℕ → List Row → Type 0
@@ -149,7 +197,10 @@ messages_table n (m ∷ ms) = (refl, messages_table (n + 1) ms)
 pub pending_table : (j : List Stamped) (ns : List Notice) → AreInTable 2 (filter_map (pending_row j) ns)
 pending_table j ns = AllByRecursion-filter_map (λ r. table (key_of r) ≡ 2) (pending_row j) (λ n r e. ap table (pending_row-key j n r e)) ns
 
-pub outbox_table : (n : ℕ) (es : List Entry) → AreInTable 3 (outbox_rows_from n es)
+pub active_table : (j : List Stamped) (ns : List Notice) → AreInTable 3 (filter_map (active_row j) ns)
+active_table j ns = AllByRecursion-filter_map (λ r. table (key_of r) ≡ 3) (active_row j) (λ n r e. ap (λ x. table (key_of x)) (active_row-is j n r e).row) ns
+
+pub outbox_table : (n : ℕ) (es : List Entry) → AreInTable 4 (outbox_rows_from n es)
 outbox_table n [] = tt
 outbox_table n (e ∷ es) = (refl, outbox_table (n + 1) es)
 
@@ -162,17 +213,25 @@ across t xs ys low high =
 later_table : (s t : ℕ) (rs : List Row) → s < t → AreInTable t rs → AllByRecursion (λ r. s < table (key_of r)) rs
 later_table s t rs h = AllByRecursion-weaker (λ r. table (key_of r) ≡ t) (λ r. s < table (key_of r)) (λ r e. omega arith) rs
 
+-- rows behind a table
+later_tables : (t : ℕ) (xs ys : List Row) → AllByRecursion (λ r. t < table (key_of r)) xs → AllByRecursion (λ r. t < table (key_of r)) ys → AllByRecursion (λ r. t < table (key_of r)) (xs ++ ys)
+later_tables t xs ys = AllByRecursion-append (λ r. t < table (key_of r)) xs ys
+
 -- no two of what has a row have one key
 pub listed_rows-apart : (j : List Stamped) → Pairwise Apart (listed_rows j)
 listed_rows-apart j =
-    let us = user_rows_from j 1 (people j) in let ms = message_rows_from 1 (messages j) in let ps = filter_map (pending_row j) (notices j) in let os = outbox_rows_from 1 (outbox j) in
+    let us = user_rows_from j 1 (people j) in let ms = message_rows_from 1 (messages j) in let ps = filter_map (pending_row j) (notices j) in let actives = filter_map (active_row j) (notices j) in let os = outbox_rows_from 1 (outbox j) in
     let of_users = users_table j 1 (people j) in
     let of_messages = messages_table 1 (messages j) in
     let of_pending = pending_table j (notices j) in
+    let of_active = active_table j (notices j) in
     let of_outbox = outbox_table 1 (outbox j) in
-    Pairwise-append Apart us (ms ++ (ps ++ os)) (users_apart j 1 (people j))
-    (Pairwise-append Apart ms (ps ++ os) (messages_apart 1 (messages j))
-    (Pairwise-append Apart ps os (pending_apart j) (outbox_apart 1 (outbox j)) (across 2 ps os of_pending (later_table 2 3 os (omega arith) of_outbox)))
-    (across 1 ms (ps ++ os) of_messages (AllByRecursion-append (λ r. 1 < table (key_of r)) ps os (later_table 1 2 ps (omega arith) of_pending) (later_table 1 3 os (omega arith) of_outbox))))
-    (across 0 us (ms ++ (ps ++ os)) of_users (AllByRecursion-append (λ r. 0 < table (key_of r)) ms (ps ++ os) (later_table 0 1 ms (omega arith) of_messages)
-    (AllByRecursion-append (λ r. 0 < table (key_of r)) ps os (later_table 0 2 ps (omega arith) of_pending) (later_table 0 3 os (omega arith) of_outbox))))
+    let behind = λ (t : ℕ) (h : t < 3). later_tables t actives os (later_table t 3 actives h of_active) (later_table t 4 os (omega arith) of_outbox) in
+    Pairwise-append Apart us (ms ++ (ps ++ (actives ++ os))) (users_apart j 1 (people j))
+    (Pairwise-append Apart ms (ps ++ (actives ++ os)) (messages_apart 1 (messages j))
+    (Pairwise-append Apart ps (actives ++ os) (pending_apart j)
+    (Pairwise-append Apart actives os (active_apart j) (outbox_apart 1 (outbox j)) (across 3 actives os of_active (later_table 3 4 os (omega arith) of_outbox)))
+    (across 2 ps (actives ++ os) of_pending (behind 2 (omega arith))))
+    (across 1 ms (ps ++ (actives ++ os)) of_messages (later_tables 1 ps (actives ++ os) (later_table 1 2 ps (omega arith) of_pending) (behind 1 (omega arith)))))
+    (across 0 us (ms ++ (ps ++ (actives ++ os))) of_users (later_tables 0 ms (ps ++ (actives ++ os)) (later_table 0 1 ms (omega arith) of_messages)
+    (later_tables 0 ps (actives ++ os) (later_table 0 2 ps (omega arith) of_pending) (behind 0 (omega arith)))))

@@ -1,28 +1,32 @@
--- What the slow computation finds of a mail turn's entries.
-use Rattle.std.proofs.Common.{◌≡◌, ℕ, true, false, List, [], ◌∷◌, ◌++◌, length, map, refl, sym, ap, ◌∙◌}
-use Rattle.std.specs.Prelude.{Option, Some, None, option_map, if◌then◌else◌}
+-- What the slow computation finds of a turn's entries.
+use Rattle.std.proofs.Common.{◌≡◌, ℕ, true, false, ◌&&◌, List, [], ◌∷◌, ◌++◌, length, map, refl, sym, ap, ◌∙◌}
+use Rattle.std.specs.Prelude.{Option, Some, None, option_map, is_none, find, if◌then◌else◌}
+use Rattle.std.specs.Option.{option_map_or}
 use Rattle.std.specs.List.{AllByRecursion, filter_map, cons_option}
 use Rattle.std.proofs.lemmas.List.{append-nil}
 use Rattle.std.proofs.lemmas.List.Elements.{filter_map-append}
 use Rattle.chat_model.specs.declared.event.Stamped.{Stamped}
 use Rattle.chat_model.specs.declared.event.Event.{Event}
 use Rattle.chat_model.specs.declared.entry.Conversation.{Conversation}
+use Rattle.chat_model.specs.declared.ids.MessageId.{MessageId}
 use Rattle.chat_model.specs.declared.ids.UserId.{UserId}
-use Rattle.chat_model.specs.declared.trigger.Way.TheVariants.{Mail}
+use Rattle.chat_model.specs.declared.trigger.Way.TheVariants.{Mail, Push}
 use Rattle.mail_batches.specs.declared.grouping.ReadyItem.{ReadyItem}
 use Rattle.mail_batches.specs.Entries.{no_message_twice, entries_of}
 use Rattle.mail_batches.proofs.EntryCounts.{entries-counted, no_message_twice-map}
 use Rattle.notice_ledger.specs.declared.owed.Owed.{Owed}
-use Rattle.notice_ledger.specs.Past.Journal.{occurrences, occurrences_after}
+use Rattle.notice_ledger.specs.Past.Journal.{Occurrence, occurrences, occurrences_after}
 use Rattle.notice_ledger.specs.Past.Values.{numbered, user_name, SentMessage, Sending, sending_of, message_of, messages}
-use Rattle.notice_ledger.specs.Past.Owed.{Notice, notices, switch_on}
+use Rattle.notice_ledger.specs.Past.Owed.{Notice, notices, notice_to, switch_on}
 use Rattle.notice_ledger.specs.Past.Due.{is_batch_row, batch_rows}
-use Rattle.notice_ledger.specs.Past.Outbox.{conversation_of, ready_item, mailed, mail_entries}
-use Rattle.notice_ledger.specs.Plain.{owed_kept, bare_item, conversation_kept, ready_item_kept}
+use Rattle.notice_ledger.specs.Past.Outbox.{conversation_of, ready_item, mailed, mail_entries, is_pushed}
+use Rattle.notice_ledger.specs.Plain.{owed_kept, bare_item, conversation_kept, ready_item_kept, is_of_kept}
 use Rattle.notice_ledger.proofs.Batches.{mailed-batch_rows, batch_rows-once}
 use Rattle.notice_ledger.proofs.Lists.{AllByRecursion-filter}
 use Rattle.notice_ledger.proofs.OwedLemmas.{numbered-map}
 use Rattle.notice_ledger.proofs.Sent.{IsOfMessage, notices-messages}
+use Rattle.notice_ledger.proofs.SlowLemmas.{find-map}
+use Rattle.notice_ledger.proofs.Standing.{bar-none}
 
 filter_map-push : {X Y : Type 0} (h : X → Option Y) (xs : List X) (x : X) (y : Y) → Some y ≡ h x → filter_map h xs ++ y ∷ [] ≡ filter_map h (xs ++ x ∷ [])
 filter_map-push h xs x y e = ap (λ o. filter_map h xs ++ cons_option o []) e ∙ sym (filter_map-append h xs (x ∷ []))
@@ -116,3 +120,16 @@ turn_entries-on j at u name rows items on are made =
 
 pub turn_entries-off : (j : List Stamped) (at : ℕ) (u : UserId) → switch_on j u Mail ≡ false → 0 ≡ length (mail_entries j at u)
 turn_entries-off j at u off = ap (λ b. length (if b then entries_of u (user_name j u) at (map (ready_item j) (mailed j u)) else [])) (sym off)
+
+-- ---- a push turn
+
+-- a push that is found is handed over where the switch is on
+pub pushed-found : (j : List Stamped) (u : UserId) (m : MessageId) (found : List Owed) (o : Option Owed) → found ≡ map owed_kept (notices j) → o ≡ find (is_of_kept u m Push) found
+    → option_map_or (λ n. switch_on j n.user Push) o false ≡ option_map_or (is_pushed j) (notice_to j u m Push) false
+pushed-found j u m found o are at =
+    ap (λ p. option_map_or (λ n. switch_on j n.user Push) p false) (at ∙ (ap (find (is_of_kept u m Push)) are ∙ find-map (is_of_kept u m Push) owed_kept (notices j)))
+    ∙ by (notice_to j u m Push)
+  where
+    by : (p : Option Notice) → option_map_or (λ n. switch_on j n.user Push) (option_map owed_kept p) false ≡ option_map_or (is_pushed j) p false
+    by None = refl
+    by (Some n) = ap (λ (b : Option Occurrence). is_none b && switch_on j n.user Push) (sym (bar-none j n))

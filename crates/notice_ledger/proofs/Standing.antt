@@ -34,7 +34,7 @@ is_dealing s n = absorbs (is_dealt n.deal) s.event
 
 -- it is a turn of the notice
 abbrev pub is_turn : Stamped → Notice → Bool
-is_turn s n = is_turn_of n.user n.way s.event
+is_turn s n = is_turn_of n.user n.number n.way s.event
 
 -- ---- ready events and turns
 
@@ -51,10 +51,10 @@ was_dealt-append j s n placed = some_behind-next n.owing.place (λ o. absorbs (i
 -- an event is the turn of a notice that was ready before it
 pub turn-append : (j : List Stamped) (s : Stamped) (n : Notice) → n.owing.place < length j → turn (j ++ s ∷ []) n ≡ option_or (turn j n) (cond (is_some (ready j n) && is_turn s n) (Some (occurrence j s)) None)
 turn-append j s n placed =
-    ap (option_and_then (λ r. first_behind r.place (λ o. is_turn_of n.user n.way o.event) (j ++ s ∷ []))) (ready-append j s n placed) ∙ by (ready j n) refl
+    ap (option_and_then (λ r. first_behind r.place (λ o. is_turn_of n.user n.number n.way o.event) (j ++ s ∷ []))) (ready-append j s n placed) ∙ by (ready j n) refl
   where
     is_its_turn : Occurrence → Bool
-    is_its_turn o = is_turn_of n.user n.way o.event
+    is_its_turn o = is_turn_of n.user n.number n.way o.event
 
     last_ready : (b : Bool) → option_and_then (λ r. first_behind r.place is_its_turn (j ++ s ∷ [])) (cond b (Some (occurrence j s)) None) ≡ None
     last_ready true = first_behind-past (length j) is_its_turn (j ++ s ∷ []) (omega (arith, length_push j s))
@@ -139,7 +139,7 @@ ready-last j n last =
 pub account_of-last : (j : List Stamped) (n : Notice) → length j ≤ n.owing.place + 1 → account_of j n ≡ Flight
 account_of-last j n last =
     let not_ready = ready-last j n last in
-    let no_turn : turn j n ≡ None = ap (option_and_then (λ r. first_behind r.place (λ o. is_turn_of n.user n.way o.event) j)) not_ready in
+    let no_turn : turn j n ≡ None = ap (option_and_then (λ r. first_behind r.place (λ o. is_turn_of n.user n.number n.way o.event) j)) not_ready in
     let not_cleared : was_cleared j n ≡ false = ap is_some (first_behind-past n.owing.place (λ o. clears n.user n.deal o.event) j last) in
     let not_dealt : was_dealt j n ≡ false = ap is_some (first_behind-past n.owing.place (λ o. absorbs (is_dealt n.deal) o.event) j last) in
     account_of-plain j n ∙ (λ i. account_by (option_map (decided n) (no_turn i)) None (is_some (not_ready i)) (not_cleared i) (not_dealt i))

@@ -4,6 +4,12 @@ use Rattle.std.specs.Prelude.{filter, sum_by}
 use Rattle.std.specs.List.{AllByRecursion}
 use Rattle.std.proofs.lemmas.List.Sums.{sum_by-cons}
 
+pub plus_none : (n : ℕ) → n ≡ n + 0
+plus_none n = omega arith
+
+pub none_plus : (n : ℕ) → n ≡ 0 + n
+none_plus n = omega arith
+
 -- two numbers that agree where P holds sum alike
 pub sum_by_same_where : {X : Type 0} (P : X → Type 0) (f g : X → ℕ) → ((x : X) → P x → f x ≡ g x) → (xs : List X) → AllByRecursion P xs → sum_by f xs ≡ sum_by g xs
 sum_by_same_where P f g h [] all = refl

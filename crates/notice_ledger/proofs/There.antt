@@ -164,7 +164,7 @@ channels_taken j name = any_given (str_eq_ignore_ascii_case name) (λ (s : Stamp
 abbrev pub users_to : ℕ → List UserId
 users_to n = map (λ k. record { 0 = k }) (range_with_len 1 n)
 
-range-more : (a n : ℕ) → range_with_len a (n + 1) ≡ range_with_len a n ++ (a + n) ∷ []
+pub range-more : (a n : ℕ) → range_with_len a (n + 1) ≡ range_with_len a n ++ (a + n) ∷ []
 range-more a n = rw add-one (from a n)
   where
     from : (a n : ℕ) → range_with_len a (suc n) ≡ range_with_len a n ++ (a + n) ∷ []

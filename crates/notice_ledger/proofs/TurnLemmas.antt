@@ -43,12 +43,12 @@ batch_rows-kept j u =
 -- ---- turns
 
 -- what the turn decided is what the first one behind the ready event decided
-pub decision-ready : (j : List Stamped) (n : Owed) (spot : Spot) → Some spot ≡ option_map spot_of (ready_kept j n) → option_map (decided_kept n) (first_behind spot.place (λ o. is_turn_of n.user n.way o.event) j) ≡ option_map (decided_kept n) (turn_kept j n)
+pub decision-ready : (j : List Stamped) (n : Owed) (spot : Spot) → Some spot ≡ option_map spot_of (ready_kept j n) → option_map (decided_kept n) (first_behind spot.place (λ o. is_turn_of n.user n.message n.way o.event) j) ≡ option_map (decided_kept n) (turn_kept j n)
 decision-ready j n spot found = by (ready_kept j n) found
   where
-    by : (r : Option Occurrence) → Some spot ≡ option_map spot_of r → option_map (decided_kept n) (first_behind spot.place (λ o. is_turn_of n.user n.way o.event) j) ≡ option_map (decided_kept n) (option_and_then (λ r. first_behind r.place (λ o. is_turn_of n.user n.way o.event) j) r)
+    by : (r : Option Occurrence) → Some spot ≡ option_map spot_of r → option_map (decided_kept n) (first_behind spot.place (λ o. is_turn_of n.user n.message n.way o.event) j) ≡ option_map (decided_kept n) (option_and_then (λ r. first_behind r.place (λ o. is_turn_of n.user n.message n.way o.event) j) r)
     by None e = absurd (cc)
-    by (Some o) e = let same : spot ≡ spot_of o = cc in ap (λ (t : Spot). option_map (decided_kept n) (first_behind t.place (λ o. is_turn_of n.user n.way o.event) j)) same
+    by (Some o) e = let same : spot ≡ spot_of o = cc in ap (λ (t : Spot). option_map (decided_kept n) (first_behind t.place (λ o. is_turn_of n.user n.message n.way o.event) j)) same
 
 -- ---- the first ready event
 

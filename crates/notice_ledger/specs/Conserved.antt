@@ -20,10 +20,11 @@ abbrev pub is_pending_row : UserId → MessageId → Way → Row → Bool
 is_pending_row u m w (row.Pending user message way trigger deal stage) = user.0 == u.0 && message.0 == m.0 && same_way way w
 is_pending_row u m w _ = false
 
--- how many items an entry of a way has of a user's message
+-- how many items an entry of a way has of a user's message: mails come by mail entries, and pushes by push entries
 abbrev pub items_of : UserId → MessageId → Way → Entry → ℕ
 items_of u m Mail (entry.Mail user name at conversation items) = if user.0 == u.0 then count_by (λ i. i.message.0 == m.0) items else 0
-items_of u m Push (entry.Mail user name at conversation items) = 0
+items_of u m Push (entry.Push user name at conversation item) = if user.0 == u.0 && item.message.0 == m.0 then 1 else 0
+items_of u m _ _ = 0
 
 -- how many items an outbox row has of it
 abbrev pub items_in_row : UserId → MessageId → Way → Row → ℕ

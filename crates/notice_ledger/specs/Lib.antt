@@ -7,6 +7,7 @@ pub mod Journal
 pub mod Owed
 pub mod Deals
 pub mod Due
+pub mod Pushes
 pub mod Outbox
 pub mod Audit
 pub mod Rows

@@ -14,6 +14,10 @@ longest_name = 100
 abbrev pub most_items : ℕ
 most_items = 10000
 
+-- how many characters of a message's text a push shows
+abbrev pub pushed_characters : ℕ
+pushed_characters = 200
+
 -- the least and the greatest period of a user's mails, in seconds: a second and a week
 abbrev pub shortest_period : ℕ
 shortest_period = 1

@@ -8,6 +8,7 @@ pub mod Owed
 pub mod Deals
 pub mod Runs
 pub mod Due
+pub mod Pushes
 pub mod Outbox
 pub mod Audit
 pub mod Rows

@@ -1,5 +1,5 @@
 -- What the slow computation keeps of a notice and of a message, and what it computes of them.
-use Rattle.std.specs.Prelude.{ℕ, Bool, false, ◌&&◌, ◌||◌, ◌==◌, not, nat_le, nat_lt, List, [], ◌∷◌, Option, Some, None, option_and_then, option_map, unwrap_or, is_none, is_some, length, count_by, if◌then◌else◌}
+use Rattle.std.specs.Prelude.{ℕ, Bool, false, ◌&&◌, ◌||◌, ◌==◌, not, nat_le, nat_lt, List, [], ◌∷◌, Option, Some, None, option_and_then, option_map, unwrap_or, is_none, is_some, length, filter, count_by, if◌then◌else◌}
 use Rattle.std.specs.Option.{option_map_or}
 use Rattle.std.specs.List.{list_any, filter_map, flat_map}
 use Rattle.chat_model.specs.declared.event.Stamped.{Stamped}
@@ -11,6 +11,8 @@ use Rattle.chat_model.specs.declared.mentions.Mentions.{Mentions}
 use Rattle.chat_model.specs.declared.ids.UserId.{UserId}
 use Rattle.chat_model.specs.declared.ids.MessageId.{MessageId}
 use Rattle.chat_model.specs.declared.mentions.UserName.{UserName}
+use Rattle.chat_model.specs.declared.push_item.PushItem.{PushItem}
+use Rattle.chat_model.specs.declared.push_item.PushItem.TheVariants.{Notify}
 use Rattle.chat_model.specs.declared.row.Cause.TheVariants.{Read, Deleted, SwitchedOff}
 use Rattle.chat_model.specs.declared.trigger.Trigger.TheVariants.{Mention}
 use Rattle.chat_model.specs.declared.trigger.Way.{Way}
@@ -19,6 +21,7 @@ use Rattle.mail_batches.specs.declared.grouping.ReadyItem.{ReadyItem}
 use Rattle.notice_ledger.specs.declared.accounts.Account.{Account}
 use Rattle.notice_ledger.specs.declared.accounts.Account.TheVariants.{Flight, Held, Ready, Handed, Cancelled, LiveQueue}
 use Rattle.notice_ledger.specs.declared.owed.Owed.{Owed}
+use Rattle.notice_ledger.specs.declared.pushes.ReadyPush.{ReadyPush}
 use Rattle.notice_ledger.specs.declared.readiness.Spot.{Spot}
 use Rattle.chat_model.specs.Outcomes.{is_dealt}
 use Rattle.chat_model.specs.Triggers.{trigger_of}
@@ -97,7 +100,7 @@ bar_kept j n = bar_behind n.place n.user n.message n.way j
 
 -- the first event behind the ready one that is a turn of the notice
 abbrev pub turn_kept : List Stamped → Owed → Option Occurrence
-turn_kept j n = option_and_then (λ r. first_behind r.place (λ o. is_turn_of n.user n.way o.event) j) (ready_kept j n)
+turn_kept j n = option_and_then (λ r. first_behind r.place (λ o. is_turn_of n.user n.message n.way o.event) j) (ready_kept j n)
 
 -- what the notice's turn decided
 abbrev pub decided_kept : Owed → Occurrence → Account
@@ -137,6 +140,33 @@ found_due d = record { due = d.due; user = d.user }
 -- it is the user's turn at a stamp, where this user has the least due moment
 abbrev pub is_next_turn : Option DueUser → UserId → ℕ → Bool
 is_next_turn first u at = option_map_or (λ d. d.user.0 == u.0 && nat_le d.due at) first false
+
+-- a push notice with the place of its ready event, where it has one; no event bars it
+abbrev pub ready_push_kept : List Stamped → Owed → Option ReadyPush
+ready_push_kept j n =
+    if same_way n.way Push then option_map (λ o. record { user = n.user; message = n.message; place = o.place }) (ready_kept j n) else None
+
+-- a push stands before another: by user, then message
+abbrev pub stands_before_kept : ReadyPush → ReadyPush → Bool
+stands_before_kept a b = nat_lt a.user.0 b.user.0 || a.user.0 == b.user.0 && nat_lt a.message.0 b.message.0
+
+-- a push before the first one that it stands before
+abbrev pub put_by_user_kept : ReadyPush → List ReadyPush → List ReadyPush
+put_by_user_kept p [] = p ∷ []
+put_by_user_kept p (other ∷ rest) = if stands_before_kept p other then p ∷ other ∷ rest else other ∷ put_by_user_kept p rest
+
+-- pushes by user, then message
+abbrev pub by_user_kept : List ReadyPush → List ReadyPush
+by_user_kept [] = []
+by_user_kept (p ∷ rest) = put_by_user_kept p (by_user_kept rest)
+
+-- those of the pushes that the event at a place makes ready, by user, then message
+abbrev pub items_kept : List ReadyPush → ℕ → List ReadyPush
+items_kept pushes place = by_user_kept (filter (λ p. p.place == place) pushes)
+
+-- the item of a push
+abbrev pub notify_kept : ReadyPush → PushItem
+notify_kept p = Notify p.user p.message
 
 -- the notice is to this user, of this message, by this way
 abbrev pub is_of_kept : UserId → MessageId → Way → Owed → Bool

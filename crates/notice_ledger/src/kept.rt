@@ -7,6 +7,7 @@ ghost use Rattle.notice_ledger.specs.Plain.{found_due, is_next_turn};
 
 use crate::due::{DueUser, first_due};
 use crate::order::is_in_order;
+use crate::pushes::is_oldest;
 use crate::refused::refusal;
 use chat_model::{Event, Moment, OutOfMemory, Stamped, UserId};
 use std::alloc::Global;
@@ -38,6 +39,7 @@ fn may_stand(
             let first = first_due(alloc, past)?;
             Ok(is_next_turn(first, *user, at))
         }
+        Event::PushTurn(item) => is_oldest(alloc, past, item),
     }
 }
 

@@ -15,6 +15,9 @@ mod messages;
 mod order;
 mod outbox;
 mod owed;
+#[cfg(test)]
+mod push_tests;
+mod pushes;
 mod readiness;
 mod refused;
 mod rules;

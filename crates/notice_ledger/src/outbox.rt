@@ -1,19 +1,21 @@
-//! How many entries the mail turns add, by looking through the whole list of events.
-ghost use Rattle.std.specs.Prelude.{◌≡◌, length, map, option_map, IfOk};
+//! How many entries the turns add, by looking through the whole list of events.
+ghost use Rattle.std.specs.Prelude.{◌≡◌, ℕ, false, length, map, option_map, IfOk};
+ghost use Rattle.std.specs.Option.{option_map_or};
 ghost use Rattle.std.specs.List.{filter_map};
 ghost use Rattle.notice_ledger.specs.Past.Audit.{in_64_bits};
-ghost use Rattle.notice_ledger.specs.Past.Outbox.{conversation_of, entries_by, mail_entries, outbox};
+ghost use Rattle.notice_ledger.specs.Past.Outbox.{conversation_of, entries_by, is_pushed, mail_entries, outbox, push_entries};
+ghost use Rattle.notice_ledger.specs.Past.Owed.{notice_to};
 ghost use Rattle.notice_ledger.specs.Past.Values.{messages, sending_of};
 ghost use Rattle.notice_ledger.specs.Plain.{bare_item, ready_item_kept};
 
 use crate::due::batch_rows;
 use crate::facts::item_at;
-use crate::owed::Owed;
+use crate::owed::{Owed, found, notices};
 use crate::turns::is_switch_on;
 use crate::values::channel_name;
 use chat_model::{
-    Conversation, Event, Item, List, MessageId, Moment, OutOfMemory, Request, Stamped, Text,
-    Trigger, UserId, Way, ascending_users,
+    Conversation, Event, Item, List, MessageId, Moment, OutOfMemory, PushItem, Request, Stamped,
+    Text, Trigger, UserId, Way, ascending_users,
 };
 use mail_batches::{ReadyItem, entries};
 use std::alloc::Global;
@@ -112,12 +114,43 @@ fn turn_entries(
     Ok(entries.len())
 }
 
+/// Whether the push turn of the user's notice of the message makes an entry: the notice is owed, and the push switch is on.
+/// No event bars it yet.
+fn is_pushed(
+    alloc: Global,
+    past: &[Stamped],
+    user: UserId,
+    message: MessageId,
+) -> Result<bool, OutOfMemory>
+    ensures { IfOk result (λ is. is ≡ option_map_or (is_pushed past.now) (notice_to past.now user message Way.Push) false) }
+{
+    let notices = notices(alloc, past)?;
+    match found(&notices, user, message, Way::Push) {
+        Some(notice) => Ok(is_switch_on(past, notice.user, Way::Push)),
+        None => Ok(false),
+    }
+}
+
+/// How many entries the push turn of the item adds.
+fn push_entries(alloc: Global, past: &[Stamped], item: &PushItem) -> Result<usize, OutOfMemory>
+    ensures { IfOk result (λ n. (at : ℕ) → n ≡ length (push_entries past.now at item.now)) }
+{
+    match item {
+        PushItem::Notify { user, message } => {
+            let is_pushed = is_pushed(alloc, past, *user, *message)?;
+            Ok(if is_pushed { 1 } else { 0 })
+        }
+        PushItem::Remove { .. } => Ok(0),
+    }
+}
+
 /// How many entries an event behind these adds.
 fn entries_by(alloc: Global, past: &[Stamped], stamped: &Stamped) -> Result<usize, OutOfMemory>
     ensures { IfOk result (λ n. n ≡ length (entries_by past.now stamped.now.at stamped.now.event)) }
 {
     match &stamped.event {
         Event::MailTurn(user) => turn_entries(alloc, past, *user, stamped.at),
+        Event::PushTurn(item) => push_entries(alloc, past, item),
         _ => Ok(0),
     }
 }

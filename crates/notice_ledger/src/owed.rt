@@ -1,10 +1,11 @@
 //! What each event owes, by looking through the whole list of the events before it.
-ghost use Rattle.std.specs.Prelude.{◌≡◌, [], ◌∷◌, ◌++◌, map, option_to_list, IfOk, OnOk};
+ghost use Rattle.std.specs.Prelude.{◌≡◌, [], ◌∷◌, ◌++◌, map, find, option_to_list, IfOk, OnOk};
+ghost use Rattle.std.specs.Option.{option_copied};
 ghost use Rattle.std.specs.List.{filter_map};
 ghost use Rattle.notice_ledger.specs.Past.Journal.{occurrence};
 ghost use Rattle.notice_ledger.specs.Past.Triggers.{mentions_of};
 ghost use Rattle.notice_ledger.specs.Past.Owed.{notices, owed_by, owed_of, same_way};
-ghost use Rattle.notice_ledger.specs.Plain.{owed_kept, owed_by_facts, owed_to_all};
+ghost use Rattle.notice_ledger.specs.Plain.{is_of_kept, owed_kept, owed_by_facts, owed_to_all};
 
 use crate::Destination;
 use crate::facts::Heard;
@@ -163,4 +164,30 @@ pub fn notices(alloc: Global, journal: &[Stamped]) -> Result<Vec<Owed>, OutOfMem
         found.extend_from_slice(&owed)?;
     }
     Ok(found)
+}
+
+fn is_same_way(way: Way, other: Way) -> bool
+    ensures { result ≡ same_way way other }
+{
+    match (way, other) {
+        (Way::Mail, Way::Mail) => true,
+        (Way::Push, Way::Push) => true,
+        _ => false,
+    }
+}
+
+/// Whether the notice is to the user, of the message, by the way.
+fn is_of(notice: &Owed, user: UserId, message: MessageId, way: Way) -> bool
+    ensures { result ≡ is_of_kept user message way notice.now }
+{
+    notice.user.0 == user.0 && notice.message.0 == message.0 && is_same_way(notice.way, way)
+}
+
+/// The notice of a user, a message and a way.
+pub fn found(notices: &[Owed], user: UserId, message: MessageId, way: Way) -> Option<&Owed>
+    ensures { option_copied result ≡ find (is_of_kept user message way) notices.now }
+{
+    notices
+        .iter()
+        .find(|notice| is_of(notice, user, message, way))
 }

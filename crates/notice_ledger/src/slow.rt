@@ -1,47 +1,19 @@
 //! The account of a notice and the counts, computed plainly: no table, and the whole list for each question.
-ghost use Rattle.std.specs.Prelude.{◌≡◌, map, find, count_by, IfOk};
-ghost use Rattle.std.specs.Option.{option_copied};
-ghost use Rattle.notice_ledger.specs.Past.Owed.{same_way};
+ghost use Rattle.std.specs.Prelude.{◌≡◌, map, count_by, IfOk};
 ghost use Rattle.notice_ledger.specs.Past.Audit.{in_64_bits, same_account, same_cause};
 ghost use Rattle.notice_ledger.specs.Past.Owed as lawful_owed;
 ghost use Rattle.notice_ledger.specs.Past.Audit as lawful_audit;
 ghost use Rattle.notice_ledger.specs.Owed.{account};
 ghost use Rattle.notice_ledger.specs.Audit.{counts_of};
-ghost use Rattle.notice_ledger.specs.Plain.{account_kept, counts_kept, is_of_kept};
+ghost use Rattle.notice_ledger.specs.Plain.{account_kept, counts_kept};
 
 use crate::Account;
 use crate::kept::lawful_events;
 use crate::outbox::entry_count;
-use crate::owed::{Owed, notices};
+use crate::owed::{Owed, found, notices};
 use crate::turns::account_of;
 use chat_model::{Cause, Counts, MessageId, OutOfMemory, Stamped, UserId, Way};
 use std::alloc::Global;
-
-fn is_same_way(way: Way, other: Way) -> bool
-    ensures { result ≡ same_way way other }
-{
-    match (way, other) {
-        (Way::Mail, Way::Mail) => true,
-        (Way::Push, Way::Push) => true,
-        _ => false,
-    }
-}
-
-/// Whether the notice is to the user, of the message, by the way.
-fn is_of(notice: &Owed, user: UserId, message: MessageId, way: Way) -> bool
-    ensures { result ≡ is_of_kept user message way notice.now }
-{
-    notice.user.0 == user.0 && notice.message.0 == message.0 && is_same_way(notice.way, way)
-}
-
-/// The notice of a user, a message and a way.
-fn found(notices: &[Owed], user: UserId, message: MessageId, way: Way) -> Option<&Owed>
-    ensures { option_copied result ≡ find (is_of_kept user message way) notices.now }
-{
-    notices
-        .iter()
-        .find(|notice| is_of(notice, user, message, way))
-}
 
 /// Where a notice stands after events that are all lawful.
 fn lawful_account(

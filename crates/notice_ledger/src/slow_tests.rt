@@ -7,7 +7,7 @@ use std::alloc::Global;
 use std::process::Abort;
 use std::test::Fail;
 
-fn add(
+pub fn add(
     rt: &impl Abort,
     journal: &mut Vec<Stamped>,
     seconds: u64,
@@ -18,7 +18,7 @@ fn add(
     Ok(())
 }
 
-fn add_user(alloc: Global, name: &str) -> Result<Event, Fail> {
+pub fn add_user(alloc: Global, name: &str) -> Result<Event, Fail> {
     let name = Text::from_str(alloc, name)?;
     Ok(Event::Asked(Request::AddUser { name, bot: false }))
 }
@@ -28,7 +28,7 @@ fn add_channel(alloc: Global, name: &str) -> Result<Event, Fail> {
     Ok(Event::Asked(Request::AddChannel { name }))
 }
 
-fn subscription(user: u64) -> Event {
+pub fn subscription(user: u64) -> Event {
     Event::Asked(Request::Subscribe {
         user: UserId(user),
         channel: ChannelId(1),
@@ -36,7 +36,7 @@ fn subscription(user: u64) -> Event {
     })
 }
 
-fn send(alloc: Global, text: &str) -> Result<Event, Fail> {
+pub fn send(alloc: Global, text: &str) -> Result<Event, Fail> {
     send_to(alloc, 1, text)
 }
 
@@ -59,7 +59,7 @@ fn add_group_out_of_order(alloc: Global) -> Result<Event, Fail> {
 }
 
 // Ada and Ben, both subscribed to a channel, and Ada's message at second 100 that mentions Ben.
-fn lunch(rt: &impl Abort, alloc: Global) -> Result<Vec<Stamped>, Fail> {
+pub fn lunch(rt: &impl Abort, alloc: Global) -> Result<Vec<Stamped>, Fail> {
     let mut journal = Vec::new(alloc);
     add(rt, &mut journal, 0, Event::Restart)?;
     add(rt, &mut journal, 0, add_user(alloc, "Ada")?)?;
@@ -72,7 +72,7 @@ fn lunch(rt: &impl Abort, alloc: Global) -> Result<Vec<Stamped>, Fail> {
 }
 
 // The hub dealt the deal, with the verdict for Ben.
-fn dealt(alloc: Global, deal: u64, verdict: Verdict) -> Result<Event, Fail> {
+pub fn dealt(alloc: Global, deal: u64, verdict: Verdict) -> Result<Event, Fail> {
     let mut verdicts = List::new(alloc);
     verdicts.push(UserVerdict {
         user: UserId(2),
@@ -94,7 +94,7 @@ fn cleared(alloc: Global, deal: u64) -> Result<Event, Fail> {
 }
 
 // Ben missed the first deals, so many of them.
-fn missed(alloc: Global, count: u64) -> Result<Event, Fail> {
+pub fn missed(alloc: Global, count: u64) -> Result<Event, Fail> {
     let mut deals = List::new(alloc);
     for deal in 0..count {
         deals.push(DealNo(deal))?;
@@ -119,7 +119,7 @@ fn held(held: u64, live: u64) -> Counts {
 }
 
 // So many notices are ready, and so many were handed, each of a conversation of its own.
-fn counts(ready: u64, handed: u64) -> Counts {
+pub fn counts(ready: u64, handed: u64) -> Counts {
     Counts {
         flight: 0,
         held: 0,
@@ -211,7 +211,7 @@ fn an_account_is_found(rt: HostRuntime) -> Result<(), Fail> {
     Ok(())
 }
 
-fn set(change: SettingChange) -> Event {
+pub fn set(change: SettingChange) -> Event {
     Event::Asked(Request::Set {
         user: UserId(2),
         change,

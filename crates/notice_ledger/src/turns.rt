@@ -1,14 +1,14 @@
 //! What a notice's turn decided, and where an owed notice stands, by looking through the whole list of events.
 ghost use Rattle.std.specs.Prelude.{◌≡◌, ◌&&◌, None, nat_lt, is_some, option_map, if◌then◌else◌};
 ghost use Rattle.notice_ledger.specs.Past.Journal.{first_behind};
-ghost use Rattle.notice_ledger.specs.Past.Owed.{account_by, is_mail_turn_of, is_turn_of, switch_on, turn_switch};
+ghost use Rattle.notice_ledger.specs.Past.Owed.{account_by, is_mail_turn_of, is_push_turn_of, is_turn_of, switch_on, turn_switch};
 ghost use Rattle.notice_ledger.specs.Plain.{account_kept, cleared_kept, dealt_kept, decided_kept, ready_kept, turn_kept};
 
 use crate::Account;
 use crate::owed::Owed;
 use crate::readiness::{ready, was_cleared, was_dealt};
 use crate::settings::settings;
-use chat_model::{Cause, Event, Settings, Stamped, UserId, Way};
+use chat_model::{Cause, Event, MessageId, PushItem, Settings, Stamped, UserId, Way};
 
 fn is_mail_turn_of(user: UserId, event: &Event) -> bool
     ensures { result ≡ is_mail_turn_of user event.now }
@@ -19,13 +19,27 @@ fn is_mail_turn_of(user: UserId, event: &Event) -> bool
     }
 }
 
-/// Whether the event is a turn of the user by the way.
-fn is_turn_of(user: UserId, way: Way, event: &Event) -> bool
-    ensures { result ≡ is_turn_of user way event.now }
+fn is_push_turn_of(user: UserId, message: MessageId, event: &Event) -> bool
+    ensures { result ≡ is_push_turn_of user message event.now }
 {
-    match way {
-        Way::Mail => is_mail_turn_of(user, event),
-        Way::Push => false,
+    match event {
+        Event::PushTurn(
+            PushItem::Notify {
+                user: other,
+                message: turned,
+            },
+        ) => other.0 == user.0 && turned.0 == message.0,
+        _ => false,
+    }
+}
+
+/// Whether the event is a turn of the notice: by mail one of its user, and by push one of the notice itself.
+fn is_turn_of(notice: &Owed, event: &Event) -> bool
+    ensures { result ≡ is_turn_of notice.now.user notice.now.message notice.now.way event.now }
+{
+    match notice.way {
+        Way::Mail => is_mail_turn_of(notice.user, event),
+        Way::Push => is_push_turn_of(notice.user, notice.message, event),
     }
 }
 
@@ -59,14 +73,14 @@ fn decided(past: &[Stamped], notice: &Owed) -> Account
 
 /// Whether an event at a place stands behind another place and is a turn of the notice.
 fn is_turn_behind(notice: &Owed, behind: usize, place: usize, event: &Event) -> bool
-    ensures { result ≡ (nat_lt behind place && is_turn_of notice.now.user notice.now.way event.now) }
+    ensures { result ≡ (nat_lt behind place && is_turn_of notice.now.user notice.now.message notice.now.way event.now) }
 {
-    behind < place && is_turn_of(notice.user, notice.way, event)
+    behind < place && is_turn_of(notice, event)
 }
 
 /// What the first turn of the notice behind a place decided.
 fn decision_behind(journal: &[Stamped], place: usize, notice: &Owed) -> Option<Account>
-    ensures { result ≡ option_map (decided_kept notice.now) (first_behind place (λ o. is_turn_of notice.now.user notice.now.way o.event) journal.now) }
+    ensures { result ≡ option_map (decided_kept notice.now) (first_behind place (λ o. is_turn_of notice.now.user notice.now.message notice.now.way o.event) journal.now) }
 {
     for i in 0..journal.len() {
         if is_turn_behind(notice, place, i, &journal[i].event) {

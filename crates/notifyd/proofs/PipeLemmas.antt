@@ -1,6 +1,6 @@
 -- The pipe law in a play, line by line, and a world in which nothing of the hub counts as taken.
-use Rattle.std.proofs.Common.{◌≡◌, ℕ, ◌-◌, Bool, true, false, not, List, [], ◌∷◌, ◌++◌, length, filter, map, Option, Some, None, Result, Ok, Err, refl, sym, ap, ◌∙◌, subst, append_assoc}
-use Rattle.std.specs.Prelude.{if◌then◌else◌, slice_get, nat_le, IsTrue, ◌==◌}
+use Rattle.std.proofs.Common.{◌≡◌, ℕ, Bool, true, false, not, List, [], ◌∷◌, ◌++◌, length, filter, map, Option, Some, None, Result, Ok, Err, refl, sym, ap, ◌∙◌, subst, append_assoc}
+use Rattle.std.specs.Prelude.{if◌then◌else◌, slice_get, nat_le, ◌==◌}
 use Rattle.std.specs.Option.{option_to_list}
 use Rattle.std.proofs.lemmas.List.{append-nil}
 use Rattle.chat_model.specs.declared.event.Stamped.{Stamped}
@@ -9,6 +9,7 @@ use Rattle.chat_model.specs.declared.deal.Outcome.{Outcome}
 use Rattle.chat_model.specs.declared.deal.Deal.{Deal}
 use Rattle.chat_model.specs.declared.ids.DealNo.{DealNo}
 use Rattle.chat_model.specs.declared.ids.UserId.{UserId}
+use Rattle.chat_model.specs.declared.push_item.PushItem.{PushItem}
 use Rattle.chat_model.specs.declared.request.Request.{Request}
 use Rattle.chat_model.specs.declared.request.Refusal.{Refusal}
 use Rattle.chat_model.specs.declared.request.Refusal.TheVariants.{NoUser, BadEventId}
@@ -37,7 +38,8 @@ use Rattle.notifyd.specs.declared.reply.Reply.TheVariants as reply
 use Rattle.notifyd.specs.World.{World, world, untaken, stamp_now, with_event}
 use Rattle.notifyd.specs.Step.{Step, clean_step, asked_unless, mailed_for}
 use Rattle.notifyd.specs.AbsorbStep.{next_absorbed, absorbed_step}
-use Rattle.notifyd.specs.HubStep.{for_known, stays, steps_to, register_step, beat_step, acked_step, left_step, swept_step, dealt_step, is_past_next}
+use Rattle.notifyd.specs.PushStep.{next_item, pushed_step}
+use Rattle.notifyd.specs.HubStep.{stays, steps_to, register_step, beat_step, acked_step, left_step, swept_step, dealt_step, is_past_next}
 use Rattle.notifyd.specs.Mark.{Mark, step, MayHave, mark_of, may_want_memory, adds_event}
 use Rattle.notifyd.specs.Mark.Mark.{Clean, NoMemory, KeeperFault}
 use Rattle.notifyd.specs.Play.{IsStep}
@@ -114,11 +116,16 @@ absorbed_on : (o : Option Outcome) (w : World) → SendsOn w.hub (absorbed_step 
 absorbed_on None w = stays_same w.hub
 absorbed_on (Some o) w = stays_same w.hub
 
+pushed_on : (o : Option PushItem) (w : World) → SendsOn w.hub (pushed_step o w).after.hub
+pushed_on None w = stays_same w.hub
+pushed_on (Some item) w = stays_same w.hub
+
 clean_on : (w : World) (l : Line) → SendsOn w.hub (clean_step w l).after.hub
 clean_on w line.Nothing = stays_same w.hub
 clean_on w (line.At moment) = stays_same w.hub
 clean_on w (line.Asked request) = asked_on (refusal w.journal request) w request
 clean_on w line.Mail = mailed_on (first_due w.journal) w
+clean_on w line.Push = pushed_on (next_item w) w
 clean_on w line.Audit = stays_same w.hub
 clean_on w (line.Register user) = known_on (knows w.journal user) w (register_step w user) (record { taken = refl; more = []; sent = sym (append-nil w.hub.sent) })
 clean_on w (line.Beat user) = known_on (knows w.journal user) w (beat_step w user) (record { taken = refl; more = []; sent = sym (append-nil w.hub.sent) })
@@ -217,11 +224,16 @@ absorbed_seen : (o : Option Outcome) (w : World) → absorbed_step o (seen w) �
 absorbed_seen None w = refl
 absorbed_seen (Some o) w = refl
 
+pushed_seen : (o : Option PushItem) (w : World) → pushed_step o (seen w) ≡ seen_step (pushed_step o w)
+pushed_seen None w = refl
+pushed_seen (Some item) w = refl
+
 clean_seen : (w : World) (l : Line) → clean_step (seen w) l ≡ seen_step (clean_step w l)
 clean_seen w line.Nothing = refl
 clean_seen w (line.At moment) = refl
 clean_seen w (line.Asked request) = asked_seen (refusal w.journal request) w request
 clean_seen w line.Mail = mailed_seen (first_due w.journal) w
+clean_seen w line.Push = pushed_seen (next_item w) w
 clean_seen w line.Audit = refl
 clean_seen w (line.Register user) = known_seen (knows w.journal user) w (register_step w user) (register_step (seen w) user) refl
 clean_seen w (line.Beat user) = known_seen (knows w.journal user) w (beat_step w user) (beat_step (seen w) user) refl
@@ -241,6 +253,7 @@ wants_seen w line.Nothing = refl
 wants_seen w (line.At moment) = refl
 wants_seen w (line.Asked request) = refl
 wants_seen w line.Mail = refl
+wants_seen w line.Push = refl
 wants_seen w line.Audit = refl
 wants_seen w (line.Register user) = refl
 wants_seen w (line.Beat user) = refl
@@ -255,6 +268,7 @@ adds_seen w line.Nothing = refl
 adds_seen w (line.At moment) = refl
 adds_seen w (line.Asked request) = refl
 adds_seen w line.Mail = refl
+adds_seen w line.Push = refl
 adds_seen w line.Audit = refl
 adds_seen w (line.Register user) = refl
 adds_seen w (line.Beat user) = refl

@@ -1,5 +1,5 @@
 -- Each step is shown: its line has one output line or none, and the line gives the mark.
-use Rattle.std.proofs.Common.{◌≡◌, ℕ, zero, suc, Bool, map, append_assoc, ◌+◌, ◌-◌, length, ◌/◌, ◌%◌, ◌==◌, true, false, ◌||◌, List, [], ◌∷◌, ◌++◌, Option, Some, None, refl, sym, ap, ◌∙◌, is_some, arith, nat_lt, fold}
+use Rattle.std.proofs.Common.{◌≡◌, ℕ, zero, suc, Bool, map, append_assoc, ◌+◌, length, ◌/◌, ◌%◌, ◌==◌, true, false, ◌||◌, List, [], ◌∷◌, ◌++◌, Option, Some, None, refl, sym, ap, ◌∙◌, is_some, arith, nat_lt, fold}
 use Rattle.std.specs.Prelude.{IfSome, IsTrue, if◌then◌else◌, codes, decimal, nat_le}
 use Rattle.std.specs.Fmt.{digits, digits_onto, digit_glyph}
 use Rattle.std.specs.List.{flat_map}
@@ -11,6 +11,7 @@ use Rattle.chat_model.specs.declared.request.Refusal.{Refusal}
 use Rattle.chat_model.specs.declared.request.Refusal.TheVariants.{NoUser, BadEventId, TooMany}
 use Rattle.chat_model.specs.declared.request.Answer.TheVariants.{User, Group, Channel, Sent, Done}
 use Rattle.office.specs.declared.answer.MailAnswer.TheVariants.{Mailed, NotDue}
+use Rattle.office.specs.declared.answer.PushAnswer.TheVariants.{Pushed, Removed, Dropped, NothingReady}
 use Rattle.chat_model.specs.declared.event.Event.TheVariants as event
 use Rattle.notice_ledger.specs.Due.{DueUser, first_due}
 use Rattle.notice_ledger.specs.Outbox.{mail_entries, dropped as rows_dropped}
@@ -28,6 +29,11 @@ use Rattle.chat_model.specs.declared.deal.UserVerdict.{UserVerdict}
 use Rattle.chat_model.specs.declared.deal.Verdict.{Verdict}
 use Rattle.chat_model.specs.declared.deal.Verdict.TheVariants.{Idle, Live}
 use Rattle.chat_model.specs.declared.ids.UserId.{UserId}
+use Rattle.chat_model.specs.declared.push_item.PushItem.{PushItem}
+use Rattle.chat_model.specs.declared.row.Cause.{Cause}
+use Rattle.chat_model.specs.declared.row.Cause.TheVariants as cause
+use Rattle.chat_model.specs.declared.trigger.Trigger.{Trigger}
+use Rattle.chat_model.specs.declared.trigger.Trigger.TheVariants as trigger
 use Rattle.notice_ledger.specs.Deals.{deal, knows}
 use Rattle.presence_queues.specs.Hub.{QueueSeen, queue_at, overdue_user}
 use Rattle.presence_queues.specs.Steps.{acked, left_items, item_of}
@@ -40,6 +46,8 @@ use Rattle.chat_model.specs.declared.deal.Outcome.TheVariants as outcome
 use Rattle.chat_model.specs.declared.ids.DealNo.{DealNo}
 use Rattle.office.specs.declared.answer.Absorbed.TheVariants as absorbed
 use Rattle.notifyd.specs.AbsorbStep.{next_absorbed, absorbed_step}
+use Rattle.notifyd.specs.PushStep.{next_item, pushed_step}
+use Rattle.notifyd.specs.PushWords.{trigger_word, cause_word, push_words}
 use Rattle.notifyd.specs.HubStep.{stays, steps_to, register_step, beat_step, is_past_next, acked_step, left_step, swept_step, dealt_step}
 use Rattle.notifyd.specs.declared.line.Line.{Line}
 use Rattle.notifyd.specs.declared.line.Line.TheVariants as line
@@ -143,6 +151,28 @@ outcome_mark (outcome.Dealt deal verdicts) = refl
 outcome_mark (outcome.Cleared user deals queue) = refl
 outcome_mark (outcome.Missed user deals) = refl
 
+trigger_plain : (t : Trigger) → has_line_feed (trigger_word t) ≡ false
+trigger_plain trigger.Direct = refl
+trigger_plain trigger.Mention = refl
+trigger_plain trigger.FollowedTopicWildcard = refl
+trigger_plain trigger.FollowedChannelWildcard = refl
+trigger_plain trigger.TopicWildcard = refl
+trigger_plain trigger.ChannelWildcard = refl
+trigger_plain trigger.FollowedTopic = refl
+trigger_plain trigger.Channel = refl
+
+cause_plain : (c : Cause) → has_line_feed (cause_word c) ≡ false
+cause_plain cause.Read = refl
+cause_plain cause.Deleted = refl
+cause_plain cause.SwitchedOff = refl
+
+-- a user and a message behind what has no line feed, and then a word
+of_message : (xs word : List ℕ) (u m : ℕ) → has_line_feed xs ≡ false → has_line_feed word ≡ false → has_line_feed (xs ++ decimal u ++ codes " message=" ++ decimal m ++ codes " " ++ word) ≡ false
+of_message xs word u m h k =
+    let user = xs ++ decimal u in
+    let message = user ++ codes " message=" ++ decimal m in
+    join (message ++ codes " ") word (join message (codes " ") (with_number user (codes " message=") m (join xs (decimal u) h (decimal_plain u)) refl) refl) k
+
 one_line : (text words : List ℕ) → text ≡ words ++ 10 ∷ [] → has_line_feed words ≡ false → IsOneLine text
 one_line text words e h = record { words = words; ended = e; single = h }
 
@@ -155,6 +185,10 @@ gives-mark (reply.Answer Done) = record { one_line = one_line _ (answer_words Do
 gives-mark (reply.Mail (Mailed user entries dropped)) = record { one_line = one_line _ (mail_words (Mailed user entries dropped)) refl (with_number (codes "mailed " ++ decimal user.0 ++ codes " entries=" ++ decimal entries) (codes " dropped=") dropped (with_number (codes "mailed " ++ decimal user.0) (codes " entries=") entries (decimal_plain user.0) refl) refl); mark = refl }
 gives-mark (reply.Mail (NotDue (Some moment))) = record { one_line = one_line _ (mail_words (NotDue (Some moment))) refl (decimal_plain moment); mark = refl }
 gives-mark (reply.Mail (NotDue None)) = record { one_line = one_line _ (mail_words (NotDue None)) refl refl; mark = refl }
+gives-mark (reply.Push (Pushed user message trigger)) = record { one_line = one_line _ (push_words (Pushed user message trigger)) refl (of_message (codes "pushed ") (trigger_word trigger) user.0 message.0 refl (trigger_plain trigger)); mark = refl }
+gives-mark (reply.Push (Removed user count)) = record { one_line = one_line _ (push_words (Removed user count)) refl (with_number (codes "removed " ++ decimal user.0) (codes " count=") count (decimal_plain user.0) refl); mark = refl }
+gives-mark (reply.Push (Dropped user message cause)) = record { one_line = one_line _ (push_words (Dropped user message cause)) refl (of_message (codes "dropped ") (cause_word cause) user.0 message.0 refl (cause_plain cause)); mark = refl }
+gives-mark (reply.Push NothingReady) = record { one_line = one_line _ (codes "nothing ready") refl refl; mark = refl }
 gives-mark (reply.Audit counts) = record { one_line = one_line _ (count_words counts) refl (counts_plain counts); mark = refl }
 gives-mark (reply.Queue queue) = record { one_line = one_line _ (queue_words queue) refl (with_number (codes "queue " ++ decimal queue.run) (codes ":") queue.number (decimal_plain queue.run) refl); mark = refl }
 gives-mark (reply.Items items) = record { one_line = one_line _ (items_words items) refl (list_plain item_text item_plain items); mark = refl }
@@ -209,12 +243,17 @@ absorbed_answered : (o : Option Outcome) (w : World) → is_some (absorbed_step 
 absorbed_answered None w = refl
 absorbed_answered (Some o) w = refl
 
+pushed_answered : (o : Option PushItem) (w : World) → is_some (pushed_step o w).reply ≡ true
+pushed_answered None w = refl
+pushed_answered (Some item) w = refl
+
 -- where nothing fails a step has a reply where its line has an output line
 clean_answered : (w : World) (l : Line) → is_some (clean_step w l).reply ≡ has_output l
 clean_answered w line.Nothing = refl
 clean_answered w (line.At moment) = refl
 clean_answered w (line.Asked request) = asked_answered (refusal w.journal request) w request
 clean_answered w line.Mail = mailed_answered (first_due w.journal) w
+clean_answered w line.Push = pushed_answered (next_item w) w
 clean_answered w line.Audit = refl
 clean_answered w (line.Register user) = known_answered (knows w.journal user) w (register_step w user) refl
 clean_answered w (line.Beat user) = known_answered (knows w.journal user) w (beat_step w user) refl

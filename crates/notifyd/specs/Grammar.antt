@@ -5,7 +5,7 @@ use Rattle.std.specs.Str.Lossy.{utf8_valid_len}
 use Rattle.chat_model.specs.declared.request.Request.TheVariants.{AddUser, AddGroup, Member, AddChannel, Subscribe, Set, SetChannel, SetPolicy, Mute, Send, Direct}
 use Rattle.chat_model.specs.Number.{number_of}
 use Rattle.notifyd.specs.declared.line.Line.{Line}
-use Rattle.notifyd.specs.declared.line.Line.TheVariants.{Nothing, At, Asked, Mail, Audit, Register, Beat, Ack, Leave, Sweep, Deal, Absorb}
+use Rattle.notifyd.specs.declared.line.Line.TheVariants.{Nothing, At, Asked, Mail, Push, Audit, Register, Beat, Ack, Leave, Sweep, Deal, Absorb}
 use Rattle.notifyd.specs.Field.{column_of, is_space, field_start, word_end, word_at, word_field, moment_of, switch_of, queue_of, upto_of, list_of, numbers_of, string_field, line_end}
 use Rattle.notifyd.specs.Keys.{setting_key_of, setting_of, specific_key_of, specific_of, policy_of}
 use Rattle.notifyd.specs.Listed.{users_of}
@@ -134,6 +134,12 @@ mail_line line place = do
   end ← line_end line place
   Ok Mail
 
+-- `push`
+unfoldable pub push_line : List ℕ → ℕ → Result Line ℕ
+push_line line place = do
+  end ← line_end line place
+  Ok Push
+
 -- `audit`
 unfoldable pub audit_line : List ℕ → ℕ → Result Line ℕ
 audit_line line place = do
@@ -212,8 +218,9 @@ step_reading line =
     let place = word_end line start in
     if bytes_eq word (codes "at") then at_line line place
     else (if bytes_eq word (codes "mail") then mail_line line place
+    else (if bytes_eq word (codes "push") then push_line line place
     else (if bytes_eq word (codes "audit") then audit_line line place
-    else hub_reading line))
+    else hub_reading line)))
 
 -- a line by which a user sets something, or else one that is no request
 unfoldable pub preference_reading : List ℕ → Result Line ℕ

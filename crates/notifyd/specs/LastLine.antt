@@ -19,6 +19,7 @@ disagree_words (key.User user) = codes "disagree users " ++ decimal user.0
 disagree_words (key.Message message) = codes "disagree messages " ++ decimal message.0
 disagree_words (key.Pending user message way) =
     codes "disagree pending " ++ decimal user.0 ++ codes " " ++ decimal message.0 ++ codes " " ++ way_word way
+disagree_words (key.Active user message) = codes "disagree active " ++ decimal user.0 ++ codes " " ++ decimal message.0
 disagree_words (key.Outbox number) = codes "disagree outbox " ++ decimal number.0
 
 -- the line that ends a run early, with its line feed

@@ -7,6 +7,7 @@ pub mod Tokens
 pub mod Parts
 pub mod Words
 pub mod HubWords
+pub mod PushWords
 pub mod Reply
 pub mod LastLine
 pub mod Field
@@ -20,6 +21,7 @@ pub mod World
 pub mod Stepped
 pub mod HubStep
 pub mod AbsorbStep
+pub mod PushStep
 pub mod PipeLaw
 pub mod Step
 pub mod Mark

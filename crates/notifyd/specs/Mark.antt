@@ -6,6 +6,7 @@ use Rattle.notice_ledger.specs.Due.{first_due}
 use Rattle.notifyd.specs.World.{World, stamp_now}
 use Rattle.notifyd.specs.Step.{Step, clean_step}
 use Rattle.notifyd.specs.AbsorbStep.{next_absorbed}
+use Rattle.notifyd.specs.PushStep.{next_item}
 use Rattle.notifyd.specs.HubStep.{hub_may_want_memory}
 use Rattle.notifyd.specs.declared.line.Line.{Line}
 use Rattle.notifyd.specs.declared.line.Line.TheVariants as line
@@ -28,19 +29,21 @@ step w l KeeperFault = record { after = w; reply = Some reply.KeeperFault }
 abbrev pub is_due : World → Bool
 is_due w = option_map_or (λ d. nat_le d.due (stamp_now w)) (first_due w.journal) false
 
--- a line that may want memory in this world: a request, a mail turn that is due, an absorption where an outcome waits, and
--- lines of the hub
+-- a line that may want memory in this world: a request, a mail turn that is due, a push turn where an item waits, an
+-- absorption where an outcome waits, and lines of the hub
 abbrev pub may_want_memory : World → Line → Bool
 may_want_memory w (line.Asked request) = true
 may_want_memory w line.Mail = is_due w
+may_want_memory w line.Push = is_some (next_item w)
 may_want_memory w line.Absorb = is_some (next_absorbed w)
 may_want_memory w l = hub_may_want_memory w l
 
--- a line that would add an event: a request that is not refused, a mail turn that is due, and an absorption where an
--- outcome waits
+-- a line that would add an event: a request that is not refused, a mail turn that is due, a push turn where an item waits,
+-- and an absorption where an outcome waits
 abbrev pub adds_event : World → Line → Bool
 adds_event w (line.Asked request) = is_none (refusal w.journal request)
 adds_event w line.Mail = is_due w
+adds_event w line.Push = is_some (next_item w)
 adds_event w line.Absorb = is_some (next_absorbed w)
 adds_event w _ = false
 

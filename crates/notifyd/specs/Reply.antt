@@ -1,14 +1,16 @@
 -- The text of a reply.
 use Rattle.std.specs.Prelude.{ℕ, List, codes}
 use Rattle.notifyd.specs.declared.reply.Reply.{Reply}
-use Rattle.notifyd.specs.declared.reply.Reply.TheVariants.{Answer, Mail, Audit, Queue, Items, Sweep, Dealt, NoDeal, Absorbed, Refused, KeeperFault, OutOfMemory}
+use Rattle.notifyd.specs.declared.reply.Reply.TheVariants.{Answer, Mail, Push, Audit, Queue, Items, Sweep, Dealt, NoDeal, Absorbed, Refused, KeeperFault, OutOfMemory}
 use Rattle.notifyd.specs.HubWords.{queue_words, items_words, sweep_words, dealt_words, absorbed_words}
+use Rattle.notifyd.specs.PushWords.{push_words}
 use Rattle.notifyd.specs.Words.{line_of, answer_words, mail_words, count_words, refusal_words}
 
 -- the line of a reply, with its line feed
 abbrev pub reply_text : Reply → List ℕ
 reply_text (Answer answer) = line_of (answer_words answer)
 reply_text (Mail answer) = line_of (mail_words answer)
+reply_text (Push answer) = line_of (push_words answer)
 reply_text (Audit counts) = line_of (count_words counts)
 reply_text (Queue queue) = line_of (queue_words queue)
 reply_text (Items items) = line_of (items_words items)

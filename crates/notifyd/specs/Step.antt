@@ -13,6 +13,7 @@ use Rattle.office.specs.Office.{answer_of}
 use Rattle.notifyd.specs.World.{World, world, stamp_now, with_event}
 pub use Rattle.notifyd.specs.Stepped.{Step}
 use Rattle.notifyd.specs.AbsorbStep.{next_absorbed, absorbed_step}
+use Rattle.notifyd.specs.PushStep.{next_item, pushed_step}
 use Rattle.notifyd.specs.HubStep.{for_known, register_step, beat_step, acked_step, left_step, swept_step, dealt_step}
 use Rattle.presence_queues.specs.Hub.{queue_at, overdue_user}
 use Rattle.notice_ledger.specs.Deals.{deal}
@@ -42,6 +43,7 @@ clean_step w line.Nothing = record { after = w; reply = None }
 clean_step w (line.At moment) = record { after = world w.journal w.hub (max w.clock moment); reply = None }
 clean_step w (line.Asked request) = asked_unless (refusal w.journal request) w request
 clean_step w line.Mail = mailed_for (first_due w.journal) w
+clean_step w line.Push = pushed_step (next_item w) w
 clean_step w line.Audit = record { after = w; reply = Some (reply.Audit (counts_of w.journal)) }
 clean_step w (line.Register user) = for_known w user (register_step w user)
 clean_step w (line.Beat user) = for_known w user (beat_step w user)

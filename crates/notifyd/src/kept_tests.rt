@@ -11,8 +11,8 @@ use std::alloc::Global;
 use std::process::Abort;
 use std::test::Fail;
 
-// Runs a command over a keeper on a worked script, and compares all answers and the status.
-fn expect_worked_over<R: Abort + AllocGlobal>(
+/// Runs a command over a keeper on a worked script, compares all answers and the status, and gives the keeper back.
+pub fn expect_worked_over<R: Abort + AllocGlobal>(
     rt: &R,
     command: &str,
     keeper: MemoryKeeper,
@@ -275,6 +275,11 @@ fn rows_that_differ_from_the_replay_are_told(rt: HostRuntime) -> Result<(), Fail
         },
     };
     expect_difference(&rt, RowChange::Put(user), " => disagree users 1")?;
+    let active = Row::Active {
+        user: UserId(2),
+        message: MessageId(1),
+    };
+    expect_difference(&rt, RowChange::Put(active), " => disagree active 2 1")?;
     let entry = Entry::Mail {
         user: UserId(2),
         name: Text::from_str(alloc, "Ben")?,

@@ -81,6 +81,12 @@ fn key_words(key: RowKey) -> Words<'static>
             Part::Word(" "),
             Part::Word(way_word(way)),
         ]),
+        RowKey::Active(user, message) => Words::of(&[
+            Part::Word("disagree active "),
+            Part::Number(user.0),
+            Part::Word(" "),
+            Part::Number(message.0),
+        ]),
         RowKey::Outbox(entry) => Words::of(&[
             Part::Word("disagree outbox "),
             Part::Number(entry.0),

@@ -27,6 +27,8 @@ pub enum Line {
     Asked(Request),
     /// A mail turn.
     Mail,
+    /// A push turn.
+    Push,
     /// The counts are asked for.
     Audit,
     /// A further queue is registered for the user.

@@ -17,6 +17,7 @@ mod listed;
 mod pieces;
 mod play;
 mod preference_kinds;
+mod push_words;
 mod quoted;
 mod reply;
 mod script;
@@ -44,6 +45,8 @@ use std::{env, io};
 #[cfg(test)]
 mod batch_tests;
 #[cfg(test)]
+mod group_tests;
+#[cfg(test)]
 mod hook_tests;
 #[cfg(test)]
 mod hub_tests;
@@ -57,6 +60,8 @@ mod period_tests;
 mod play_tests;
 #[cfg(test)]
 mod preference_tests;
+#[cfg(test)]
+mod push_tests;
 #[cfg(test)]
 mod request_tests;
 #[cfg(test)]

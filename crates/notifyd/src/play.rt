@@ -115,6 +115,21 @@ fn mail<K: Keeper>(office: &mut Office<K>, clock: Moment) -> Reply
     }
 }
 
+fn push<K: Keeper>(office: &mut Office<K>, clock: Moment) -> Reply
+    ensures step { (hub : HubSeen) → IsStep (world office.old.journal hub clock) Line.Push (Some result) (world office.new.journal hub clock) }
+    ensures reached { reached office.new ≡ reached office.old }
+    ensures told { is_some (K.kept office.new.keeper) ≡ is_some (K.kept office.old.keeper) }
+    ensures cause { result ≡ Reply.KeeperFault → HasRisen (K.faults office.old.keeper) (K.faults office.new.keeper) }
+    ensures count { K.faults office.old.keeper ≤ K.faults office.new.keeper }
+    ensures most { K.faults office.new.keeper ≤ K.faults office.old.keeper + cond (is_keeper_fault (Some result)) 1 0 }
+{
+    match office.push_turn(clock) {
+        Ok(answer) => Reply::Push(answer),
+        Err(StepFault::KeeperFault) => Reply::KeeperFault,
+        Err(StepFault::OutOfMemory) => Reply::OutOfMemory,
+    }
+}
+
 fn absorb<K: Keeper>(office: &mut Office<K>, hub: &mut Hub<PlainPipe>, clock: Moment) -> Reply
     requires law { KeepsPipeLaw hub.old office.old }
     ensures law { KeepsPipeLaw hub.new office.new }
@@ -221,6 +236,7 @@ impl<'a, K: Keeper, O: Sink> Play<'a, K, O> {
             }
             Line::Asked(request) => Some(ask(&mut self.office, self.clock, request)),
             Line::Mail => Some(mail(&mut self.office, self.clock)),
+            Line::Push => Some(push(&mut self.office, self.clock)),
             Line::Audit => Some(Reply::Audit(self.office.audit())),
             Line::Register(user) => Some(register(&self.office, &mut self.hub, self.clock, user)),
             Line::Beat(user) => Some(beat(&self.office, &mut self.hub, self.clock, user)),

@@ -2,12 +2,14 @@
 use super::*;
 use crate::batch_tests::BATCHES;
 use crate::ending::Met;
+use crate::group_tests::GROUPS;
 use crate::hook_tests::HOOK;
 use crate::hub_tests::HUB;
 use crate::kept_tests::RUNS;
 use crate::period_tests::PERIODS;
 use crate::play::{Next, Play};
 use crate::preference_tests::{PREFERENCES, opened};
+use crate::push_tests::{PUSH_RUNS, PUSHED_NEXT, PUSHES};
 use crate::request_tests::{NOTICES, REQUESTS};
 use crate::run_tests::{ABSORBED_NEXT, IDLE, OPENING, lines_and_answers};
 use crate::under_way::UnderWay;
@@ -211,16 +213,24 @@ fn the_slow_computation_agrees_behind_each_line(rt: HostRuntime) -> Result<(), F
     for rows in BATCHES {
         follow_counted(&rt, rows)?;
     }
+    for rows in GROUPS {
+        follow_counted(&rt, rows)?;
+    }
+    for rows in PUSHES {
+        follow_counted(&rt, rows)?;
+    }
     Ok(())
 }
 
 #[test]
 fn the_slow_computation_agrees_behind_a_fault(rt: HostRuntime) -> Result<(), Fail> {
     let alloc = rt.alloc();
-    let worked = format!(in alloc; "{OPENING}{ABSORBED_NEXT}")?;
-    let mut failing = List::new(alloc);
-    failing.push(9)?;
-    follow_over(&rt, MemoryKeeper::new(alloc, failing), worked.as_str())?;
+    for (rows, call) in [(ABSORBED_NEXT, 9), (PUSHED_NEXT, 10)] {
+        let worked = format!(in alloc; "{OPENING}{rows}")?;
+        let mut failing = List::new(alloc);
+        failing.push(call)?;
+        follow_over(&rt, MemoryKeeper::new(alloc, failing), worked.as_str())?;
+    }
     Ok(())
 }
 
@@ -228,6 +238,10 @@ fn the_slow_computation_agrees_behind_a_fault(rt: HostRuntime) -> Result<(), Fai
 fn the_slow_computation_agrees_over_starts(rt: HostRuntime) -> Result<(), Fail> {
     let mut keeper = MemoryKeeper::new(rt.alloc(), List::new(rt.alloc()));
     for (script, _) in RUNS {
+        keeper = follow_over(&rt, keeper, script)?;
+    }
+    let mut keeper = MemoryKeeper::new(rt.alloc(), List::new(rt.alloc()));
+    for script in PUSH_RUNS {
         keeper = follow_over(&rt, keeper, script)?;
     }
     Ok(())

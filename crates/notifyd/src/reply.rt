@@ -8,11 +8,12 @@ ghost use Rattle.notifyd.specs.Reply.{reply_text};
 
 use crate::Sink;
 use crate::hub_words::{absorbed_words, dealt_words, items_words, queue_words, sweep_words};
+use crate::push_words::push_words;
 use crate::words::{Part, Words};
 use chat_model::{
     Answer, Counts, DealNo, Failed, List, OutOfMemory, QueueId, Refusal, Text, UserVerdict,
 };
-use office::{Absorbed, MailAnswer};
+use office::{Absorbed, MailAnswer, PushAnswer};
 use presence_queues::{QueueItem, SweepAnswer};
 use std::alloc::Global;
 
@@ -23,6 +24,8 @@ pub enum Reply {
     Answer(Answer),
     /// A mail turn was made, or nothing was due.
     Mail(MailAnswer),
+    /// A push turn was made, or no item waited.
+    Push(PushAnswer),
     /// The counts.
     Audit(Counts),
     /// A queue was registered.
@@ -72,6 +75,7 @@ fn reply_words(reply: &Reply) -> Words<'_>
     match reply {
         Reply::Answer(answer) => answer_words(answer),
         Reply::Mail(answer) => mail_words(answer),
+        Reply::Push(answer) => push_words(answer),
         Reply::Audit(counts) => count_words(counts),
         Reply::Queue(queue) => queue_words(queue),
         Reply::Items(items) => items_words(items),

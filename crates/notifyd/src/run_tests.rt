@@ -21,9 +21,9 @@ at 100
 // The numbers of the calls at which each device fails.
 #[derive(Clone, Copy)]
 pub struct Failing<'a> {
-    source: &'a [u64],
-    sink: &'a [u64],
-    keeper: &'a [u64],
+    pub source: &'a [u64],
+    pub sink: &'a [u64],
+    pub keeper: &'a [u64],
 }
 
 pub const NEVER: Failing<'static> = Failing {

@@ -1,7 +1,7 @@
 //! The kinds of lines that are no requests. Those of the hub stand apart.
 ghost use Rattle.std.specs.Prelude.{◌≤◌, length, IsUtf8};
 ghost use Rattle.notifyd.specs.Fault.{IsRead};
-ghost use Rattle.notifyd.specs.Grammar.{at_line, mail_line, audit_line, step_reading};
+ghost use Rattle.notifyd.specs.Grammar.{at_line, mail_line, push_line, audit_line, step_reading};
 
 use crate::fields::Fields;
 use crate::hub_kinds::read_hub;
@@ -20,6 +20,8 @@ pub fn read_step(line: &[u8]) -> Result<Line, LineFault>
         read_at(&mut fields)
     } else if kind.bytes == b"mail".as_slice() {
         read_mail(&fields)
+    } else if kind.bytes == b"push".as_slice() {
+        read_push(&fields)
     } else if kind.bytes == b"audit".as_slice() {
         read_audit(&fields)
     } else {
@@ -42,6 +44,14 @@ fn read_mail(fields: &Fields<'_>) -> Result<Line, LineFault>
 {
     fields.end()?;
     Ok(Line::Mail)
+}
+
+#[tactic(auto, unfolding(crate::specs::Grammar::push_line))]
+fn read_push(fields: &Fields<'_>) -> Result<Line, LineFault>
+    ensures { IsRead (push_line fields.now.line fields.now.place) result }
+{
+    fields.end()?;
+    Ok(Line::Push)
 }
 
 #[tactic(auto, unfolding(crate::specs::Grammar::audit_line))]

@@ -1,10 +1,10 @@
 //! Each public call once, with ample memory, and worked values.
 use super::*;
 use chat_model::{
-    Answer, ChannelId, Counts, DealNo, Failed, GroupId, List, MessageId, Refusal, Request, RowKey,
-    UserId,
+    Answer, Cause, ChannelId, Counts, DealNo, Failed, GroupId, List, MessageId, Refusal, Request,
+    RowKey, Trigger, UserId,
 };
-use office::{Absorbed, MailAnswer};
+use office::{Absorbed, MailAnswer, PushAnswer};
 use std::process::Abort;
 use std::test::Fail;
 
@@ -56,6 +56,14 @@ fn a_spool_keeps_its_files(rt: HostRuntime) -> Result<(), Fail> {
     Ok(())
 }
 
+fn dropped(cause: Cause) -> Reply {
+    Reply::Push(PushAnswer::Dropped {
+        user: UserId(2),
+        message: MessageId(1),
+        cause,
+    })
+}
+
 #[test]
 fn replies_have_their_texts(rt: HostRuntime) -> Result<(), Fail> {
     let sent = Answer::Sent {
@@ -66,6 +74,15 @@ fn replies_have_their_texts(rt: HostRuntime) -> Result<(), Fail> {
         user: UserId(2),
         entries: 1,
         dropped: 0,
+    };
+    let pushed = PushAnswer::Pushed {
+        user: UserId(2),
+        message: MessageId(3),
+        trigger: Trigger::FollowedTopicWildcard,
+    };
+    let removed = PushAnswer::Removed {
+        user: UserId(2),
+        count: 200,
     };
     let counts = Counts {
         flight: 0,
@@ -89,6 +106,15 @@ fn replies_have_their_texts(rt: HostRuntime) -> Result<(), Fail> {
         (Reply::Mail(mailed), "mailed 2 entries=1 dropped=0\n"),
         (Reply::Mail(MailAnswer::NotDue(Some(220))), "not due 220\n"),
         (Reply::Mail(MailAnswer::NotDue(None)), "not due -\n"),
+        (
+            Reply::Push(pushed),
+            "pushed 2 message=3 followed-topic-wildcard\n",
+        ),
+        (Reply::Push(removed), "removed 2 count=200\n"),
+        (dropped(Cause::Read), "dropped 2 message=1 read\n"),
+        (dropped(Cause::Deleted), "dropped 2 message=1 deleted\n"),
+        (dropped(Cause::SwitchedOff), "dropped 2 message=1 off\n"),
+        (Reply::Push(PushAnswer::NothingReady), "nothing ready\n"),
         (
             Reply::Audit(counts),
             "audit flight=0 held=1 ready=4 handed=6 read=3 deleted=7 off=8 live=2 entries=5 waiting=9 written=10\n",
@@ -173,7 +199,7 @@ fn last_lines_have_their_texts(rt: HostRuntime) -> Result<(), Fail> {
 
 #[test]
 fn bad_lines_have_their_columns(rt: HostRuntime) -> Result<(), Fail> {
-    let rows: [(&[u8], Column); 40] = [
+    let rows: [(&[u8], Column); 41] = [
         (b"at", 3),
         (b"hello", 1),
         (b"user \"Ada", 6),
@@ -197,6 +223,7 @@ fn bad_lines_have_their_columns(rt: HostRuntime) -> Result<(), Fail> {
         (b"ack 2 1:1 x\n", 11),
         (b"leave 2 :1\n", 9),
         (b"deal 1\n", 6),
+        (b"push 2\n", 6),
         (b"absorb all\n", 8),
         (b"bot Cy\n", 5),
         (b"set 2 periods 5\n", 7),
@@ -230,6 +257,7 @@ fn lines_are_read(rt: HostRuntime) -> Result<(), Fail> {
     assert!(rt; matches!(&read_line(alloc, b"  \r\n"), Ok(Line::Nothing)));
     assert!(rt; matches!(&read_line(alloc, b"# audit\n"), Ok(Line::Nothing)));
     assert!(rt; matches!(&read_line(alloc, b" mail "), Ok(Line::Mail)));
+    assert!(rt; matches!(&read_line(alloc, b"push\r\n"), Ok(Line::Push)));
     assert!(rt; matches!(&read_line(alloc, b"audit\n"), Ok(Line::Audit)));
     Ok(())
 }

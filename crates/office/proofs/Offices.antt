@@ -1,11 +1,12 @@
--- What keeps an office one: the same contents, and a lawful event that was kept and followed.
+-- What keeps an office one: a lawful event that was kept and followed.
 use Rattle.std.proofs.Common.{◌≡◌, ℕ, ◌≤◌, Bool, true, false, ◌&&◌, ◌==◌, List, [], ◌∷◌, ◌++◌, Option, Some, None, max, refl, sym, ap, ◌∙◌, arith}
 use Rattle.std.specs.Prelude.{IfSome, option_map, nat_le}
 use Rattle.std.specs.Option.{option_map_or}
 use Rattle.std.proofs.lemmas.Bool.{eq-eqb}
 use Rattle.std.proofs.lemmas.Bool.Decides.{nat_tests}
 use Rattle.chat_model.specs.declared.event.Stamped.{Stamped}
-use Rattle.chat_model.specs.declared.event.Event.TheVariants.{Restart, Asked, MailTurn}
+use Rattle.chat_model.specs.declared.event.Event.TheVariants.{Restart, Asked, MailTurn, PushTurn}
+use Rattle.chat_model.specs.declared.push_item.PushItem.{PushItem}
 use Rattle.chat_model.specs.declared.ids.UserId.{UserId}
 use Rattle.chat_model.specs.declared.request.Request.{Request}
 use Rattle.chat_model.specs.declared.request.Refusal.{Refusal}
@@ -20,22 +21,14 @@ use Rattle.notice_ledger.specs.Due.{DueUser, first_due}
 use Rattle.notice_ledger.specs.InOrder.{in_order}
 use Rattle.notice_ledger.proofs.InOrder.{in_order-may_stand}
 use Rattle.notice_ledger.specs.Rows.{rows}
-use Rattle.notice_ledger.specs.Past.Rows as past_rows
-use Rattle.notice_ledger.specs.Lawful.{lawful, IsLawful, is_lawful_after}
-use Rattle.notice_ledger.specs.Past.Lawful as past
+use Rattle.notice_ledger.specs.Lawful.{lawful, is_lawful_after}
 use Rattle.notice_ledger.specs.Past.Lawful.{may_stand}
-use Rattle.notice_ledger.proofs.LawfulLemmas.{IsLawful-nil, IsLawful-append}
+use Rattle.notice_ledger.specs.Past.Pushes.{same_item}
+use Rattle.notice_ledger.specs.Pushes.{oldest_item}
+use Rattle.notice_ledger.proofs.PushesWait.{same_item-exact}
 use Rattle.book_tables.specs.declared.tables.Tables.{Tables}
 use Rattle.book_tables.specs.Tables.{StandsFor}
-use Rattle.office.specs.Office.{IsOffice, KeptStandsFor}
-use Rattle.book_tables.proofs.RowsAfter.{rows-nil}
-
--- tables that stand for the same leave an office one
-pub same_office : (old new : Tables) (j : List Stamped) (told : Option Kept) → IsOffice told j old → ((k : List Stamped) → StandsFor old k → StandsFor new k) → IsOffice told j new
-same_office old new j told office same = record {
-  tables = same j office.tables;
-  kept = office.kept;
-}
+use Rattle.office.specs.Office.{IsOffice, KeptStandsFor, push_turn}
 
 -- what is kept stands for the journal with the event, once the event's changes are kept
 kept_after : (told : Option Kept) (j : List Stamped) (s : Stamped) (cs : List RowChange) → changed_all cs (rows j) ≡ rows (j ++ s ∷ []) → IfSome told (KeptStandsFor j) → IfSome (option_map (committed s cs) told) (KeptStandsFor (j ++ s ∷ []))
@@ -43,11 +36,11 @@ kept_after None j s cs are kept = tt
 kept_after (Some k) j s cs are kept = (ap (λ x. x ++ s ∷ []) kept.0, ap (changed_all cs) kept.1 ∙ are)
 
 -- a lawful event that was kept and applied
-pub office_after : (old new : Tables) (j : List Stamped) (s : Stamped) (told : Option Kept) (cs : List RowChange) → IsOffice told j old → changed_all cs (rows j) ≡ rows (j ++ s ∷ []) → StandsFor new (j ++ s ∷ [])
+pub office_after : (new : Tables) (j : List Stamped) (s : Stamped) (told : Option Kept) (cs : List RowChange) → IfSome told (KeptStandsFor j) → changed_all cs (rows j) ≡ rows (j ++ s ∷ []) → StandsFor new (j ++ s ∷ [])
     → IsOffice (option_map (committed s cs) told) (j ++ s ∷ []) new
-office_after old new j s told cs office are stands = record {
+office_after new j s told cs kept are stands = record {
   tables = stands;
-  kept = kept_after told j s cs are office.kept;
+  kept = kept_after told j s cs are kept;
 }
 
 -- what is kept stands for the loaded journal, where the loaded rows are that journal's
@@ -78,6 +71,12 @@ pub turn_lawful : (j : List Stamped) (now at : ℕ) (u : UserId) (d : DueUser) �
 turn_lawful j now at u d first e h stamped =
     both_hold (nat_le (last_stamp (lawful j)) at) (may_stand (lawful j) at (MailTurn u)) (not_below (last_stamp (lawful j)) now at stamped)
     (ap (λ o. option_map_or (λ d. d.user.0 == u.0 && nat_le d.due at) o false) first ∙ due_now u at d e h)
+
+-- the push turn of the item that waits longest is lawful at a stamp that is not below the last one
+pub push_turn_lawful : (j : List Stamped) (now at : ℕ) (item : PushItem) → oldest_item j ≡ Some item → at ≡ stamp j now → is_lawful_after j (push_turn at item) ≡ true
+push_turn_lawful j now at item oldest stamped =
+    both_hold (nat_le (last_stamp (lawful j)) at) (may_stand (lawful j) at (PushTurn item)) (not_below (last_stamp (lawful j)) now at stamped)
+    (ap (λ o. option_map_or (same_item item) o false) oldest ∙ (same_item-exact item item).1 refl)
 
 -- a restart is lawful at a stamp that is not below the last one
 pub restart_lawful : (j : List Stamped) (now at : ℕ) → at ≡ stamp j now → is_lawful_after j (record { at = at; event = Restart }) ≡ true

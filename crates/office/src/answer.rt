@@ -1,5 +1,5 @@
 //! What the office answers, and why it cannot.
-use chat_model::{OutOfMemory, Outcome, Refusal, Row, UserId};
+use chat_model::{Cause, MessageId, OutOfMemory, Outcome, Refusal, Row, Trigger, UserId};
 use keeper::KeepFault;
 use std::alloc::AllocError;
 
@@ -49,6 +49,30 @@ pub enum MailAnswer {
     },
     /// Nothing is due. The least due moment is carried, in seconds, or `None` where there is none.
     NotDue(Option<u64>),
+}
+
+/// What a push turn did.
+#[derive(Clone, Copy, Debug, PartialEq, Eq)]
+pub enum PushAnswer {
+    /// The push was handed over in an entry of its own. The trigger is that by which the notice was owed.
+    Pushed {
+        user: UserId,
+        message: MessageId,
+        trigger: Trigger,
+    },
+    /// The user's device is told to take so many pushes back.
+    Removed {
+        user: UserId,
+        count: u64,
+    },
+    /// The push was dropped, since its message was read or deleted or the push switch is off.
+    Dropped {
+        user: UserId,
+        message: MessageId,
+        cause: Cause,
+    },
+    /// No item waits.
+    NothingReady,
 }
 
 /// What an absorption did.

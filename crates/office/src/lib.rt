@@ -7,14 +7,14 @@ mod answer;
 mod difference;
 mod load;
 mod office;
-#[cfg(test)]
-mod period_tests;
 mod replay;
+#[cfg(test)]
+mod start_tests;
 #[cfg(test)]
 mod test_team;
 #[cfg(test)]
 mod tests;
 
-pub use answer::{Absorbed, AskFault, MailAnswer, StartFault, StepFault};
+pub use answer::{Absorbed, AskFault, MailAnswer, PushAnswer, StartFault, StepFault};
 pub use load::kept_journal;
 pub use office::Office;

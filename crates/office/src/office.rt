@@ -1,5 +1,5 @@
 //! The office: it adds lawful events to the journal, keeps them, and follows them with its tables.
-ghost use Rattle.std.specs.Prelude.{◌≡◌, ℕ, ◌+◌, ◌≤◌, ◌<◌, ◌↔◌, [], ◌∷◌, ◌++◌, length, true, max, ◌&&◌, IfOk, IfErr, IfSome, IsNone, OnOk, OnErr, Ok, Option, Some, None, List, option_map, is_some, is_none};
+ghost use Rattle.std.specs.Prelude.{◌≡◌, ℕ, ◌+◌, ◌≤◌, ◌<◌, ◌↔◌, [], ◌∷◌, ◌++◌, length, true, max, ◌&&◌, IfOk, IfErr, IfSome, IsNone, OnOk, OnErr, Ok, Option, Some, None, List, option_map, is_some, is_none, vec_len, vec_capacity};
 ghost use Rattle.chat_model.specs.Counts.{HasRisen};
 ghost use Rattle.chat_model.specs.declared.event.Event.TheVariants.{Restart, Asked};
 ghost use Rattle.chat_model.specs.declared.request.Refusal.{Refusal};
@@ -11,15 +11,16 @@ ghost use Rattle.notice_ledger.specs.InOrder.{in_order};
 ghost use Rattle.notice_ledger.specs.Lawful.{is_lawful_after};
 ghost use Rattle.notice_ledger.specs.Conserved.{IsConserved};
 ghost use Rattle.notice_ledger.specs.Past.Values.{makes_deal};
-ghost use Rattle.office.specs.Office.{IsOffice, fresh_after, KeptStandsFor, HasStarted, HasDisagreed};
+ghost use Rattle.book_tables.specs.Tables.{StandsFor};
+ghost use Rattle.office.specs.Office.{IsOffice, IsReady, fresh_after, KeptStandsFor, HasStarted, HasDisagreed};
 ghost use Rattle.office.specs.Faults.{faults_in_step, faults_in_ask, faults_in_start};
 
 use crate::load::{Replayed, load_kept};
-use crate::{Absorbed, AskFault, MailAnswer, StartFault, StepFault};
-use book_tables::{DueUser, Tables};
+use crate::{Absorbed, AskFault, MailAnswer, PushAnswer, StartFault, StepFault};
+use book_tables::{DueUser, Prepared, PushVerdict, Tables};
 use chat_model::{
-    Answer, Counts, Deal, DealNo, Event, Moment, OutOfMemory, Outcome, Refusal, Request, RowChange,
-    Stamped, UserId,
+    Answer, Counts, Deal, DealNo, Event, MessageId, Moment, OutOfMemory, Outcome, PushItem,
+    Refusal, Request, RowChange, Stamped, UserId,
 };
 use keeper::Keeper;
 use missed_hook::Take;
@@ -73,6 +74,27 @@ fn commit<K: Keeper>(
     Ok(())
 }
 
+/// What follows from a lawful event, and the room for it. The journal and what the tables stand for stay.
+fn make_ready(
+    tables: &mut Tables,
+    journal: &mut Vec<Stamped>,
+    stamped: &Stamped,
+) -> Result<Prepared, StepFault>
+    requires lawful { is_lawful_after journal.old.items stamped.now ≡ true }
+    requires tables { StandsFor tables.old journal.old.items }
+
+    ensures tables { StandsFor tables.new journal.old.items }
+    ensures journal { journal.new.items ≡ journal.old.items }
+    ensures ready { IfOk result (IsReady tables.new journal.old.items stamped.now) }
+    ensures room { OnOk result (vec_len journal.new < vec_capacity journal.new) }
+    ensures fault { IfErr result (λ e. e ≡ StepFault.OutOfMemory) }
+{
+    let prepared = tables.prepare(stamped)?;
+    tables.reserve(&prepared)?;
+    journal.reserve(1)?;
+    Ok(prepared)
+}
+
 /// Keeps an event and follows it. A fault or want of memory changes nothing.
 fn record_event<K: Keeper>(
     keeper: &mut K,
@@ -92,9 +114,7 @@ fn record_event<K: Keeper>(
     ensures counted { K.faults keeper.old ≤ K.faults keeper.new }
     ensures most { K.faults keeper.new ≤ K.faults keeper.old + faults_in_step result }
 {
-    let prepared = tables.prepare(&stamped)?;
-    tables.reserve(&prepared)?;
-    journal.reserve(1)?;
+    let prepared = make_ready(tables, journal, &stamped)?;
     commit(keeper, &stamped, prepared.changes())?;
     tables.apply(prepared);
     journal.push_reserved(stamped);
@@ -116,12 +136,14 @@ fn unused_after(unused: bool, event: &Event) -> bool
         Event::Restart => true,
         Event::Absorbed(_) => false,
         Event::Asked(request) => unused && !sends(request),
-        Event::MailTurn(_) => unused,
+        Event::MailTurn(_) | Event::PushTurn(_) => unused,
     }
 }
 
 impl<K: Keeper> Office<K> {
-    ghost use Rattle.office.specs.Office.{answer_of, NoneIsDue, least_due, IsMailTurn};
+    ghost use Rattle.office.specs.Office.{answer_of, NoneIsDue, least_due, IsMailTurn, push_turn, IsPushTurn};
+    ghost use Rattle.notice_ledger.specs.Pushes.{oldest_item};
+    ghost use Rattle.chat_model.specs.declared.push_item.PushItem.TheVariants.{Notify};
     ghost use Rattle.office.specs.Absorbing.{reached, Uses, HasAbsorbed, IsAbsorption};
     ghost use Rattle.notice_ledger.specs.Deals.{is_fresh};
     ghost use Rattle.book_tables.specs.Tables.{found_due};
@@ -274,6 +296,51 @@ impl<K: Keeper> Office<K> {
         self.tables.dropped(user)
     }
 
+    /// A copy of the push item that waits longest.
+    fn oldest(&self) -> Result<Option<PushItem>, OutOfMemory>
+        ensures item { IfOk result (λ found. found ≡ oldest_item self.now.journal) }
+        // Where none waits it takes no memory.
+        ensures none { oldest_item self.now.journal ≡ None → result ≡ Ok None }
+    {
+        match self.tables.oldest() {
+            Some(item) => Ok(Some(item.copy(*self.journal.allocator())?)),
+            None => Ok(None),
+        }
+    }
+
+    /// What the turn of the item that waits longest answers, where it is a notice's.
+    fn notice_answer(&self, user: UserId, message: MessageId) -> PushAnswer
+        requires { oldest_item self.now.journal ≡ Some (Notify user message) }
+        ensures { (at : ℕ) → is_lawful_after self.now.journal (push_turn at (Notify user message)) ≡ true → IsPushTurn self.now.journal at result (self.now.journal ++ push_turn at (Notify user message) ∷ []) }
+    {
+        match self.tables.push_verdict(user, message) {
+            PushVerdict::Hand(trigger) => PushAnswer::Pushed {
+                user,
+                message,
+                trigger,
+            },
+            PushVerdict::Drop(cause) => PushAnswer::Dropped {
+                user,
+                message,
+                cause,
+            },
+        }
+    }
+
+    /// What the turn of the item that waits longest answers.
+    fn push_answer(&self, item: &PushItem) -> PushAnswer
+        requires { oldest_item self.now.journal ≡ Some item.now }
+        ensures { (at : ℕ) → is_lawful_after self.now.journal (push_turn at item.now) ≡ true → IsPushTurn self.now.journal at result (self.now.journal ++ push_turn at item.now ∷ []) }
+    {
+        match item {
+            PushItem::Notify { user, message } => self.notice_answer(*user, *message),
+            PushItem::Remove { user, messages } => PushAnswer::Removed {
+                user: *user,
+                count: messages.as_slice().len() as u64,
+            },
+        }
+    }
+
     /// How many entries the outbox has.
     fn entries(&self) -> usize
         ensures { result ≡ length (outbox self.now.journal) }
@@ -412,5 +479,29 @@ impl<K: Keeper> Office<K> {
             entries: entries as u64,
             dropped: dropped as u64,
         })
+    }
+
+    /// Gives the push item that waits longest its turn: its push is handed over, or dropped for a cause.
+    pub fn push_turn(&mut self, now: Moment) -> Result<PushAnswer, StepFault>
+        ensures answered { IfOk result (λ a. IsPushTurn self.old.journal (stamp self.old.journal now) a self.new.journal) }
+        // Where no item waits it takes no memory, so the answer is promised.
+        ensures nothing_ready { oldest_item self.old.journal ≡ None → result ≡ Ok PushAnswer.NothingReady }
+        ensures unchanged { result ≡ Ok PushAnswer.NothingReady → self.new ≡ self.old }
+        ensures reached { reached self.new ≡ reached self.old }
+        ensures in_hand { self.new.in_hand ≡ self.old.in_hand }
+        ensures err { OnErr result ((self.new.journal ≡ self.old.journal) × (K.kept self.new.keeper ≡ K.kept self.old.keeper)) }
+        ensures told { is_some (K.kept self.new.keeper) ≡ is_some (K.kept self.old.keeper) }
+        ensures fault { IfErr result (λ e. e ≡ StepFault.KeeperFault → HasRisen (K.faults self.old.keeper) (K.faults self.new.keeper)) }
+        ensures counted { K.faults self.old.keeper ≤ K.faults self.new.keeper }
+        ensures most { K.faults self.new.keeper ≤ K.faults self.old.keeper + faults_in_step result }
+    {
+        let Some(item) = self.oldest()? else {
+            return Ok(PushAnswer::NothingReady);
+        };
+        let answer = self.push_answer(&item);
+        let at = self.stamp(now);
+        let event = Event::PushTurn(item);
+        self.record(Stamped { at, event })?;
+        Ok(answer)
     }
 }

@@ -1,14 +1,13 @@
-//! What the tests share: a team of two, what is asked of its office, and what the hub says to it.
+//! What the tests share: a team of two, of whom the one mentioned the other, and what the hub says to its office.
 ghost use Rattle.std.specs.Prelude.{⊤};
 
-use crate::{Absorbed, Office};
+use crate::Office;
 use chat_model::{
-    Answer, ChannelId, Counts, DealNo, List, Moment, Outcome, QueueId, Request, Text, UserId,
-    UserVerdict, Verdict,
+    Answer, ChannelId, Counts, DealNo, List, MessageId, Moment, Outcome, QueueId, Request, Text,
+    UserId, UserVerdict, Verdict,
 };
 use keeper::MemoryKeeper;
 use missed_hook::Take;
-use notice_ledger::audit;
 use std::alloc::Global;
 use std::process::Abort;
 use std::test::Fail;
@@ -30,21 +29,53 @@ pub fn subscription(user: u64, on: bool) -> Request {
     }
 }
 
-pub fn send(alloc: Global, sender: u64, channel: u64) -> Result<Request, Fail> {
+/// Ada mentions Ben.
+pub fn mention(alloc: Global) -> Result<Request, Fail> {
     Ok(Request::Send {
-        sender: UserId(sender),
-        channel: ChannelId(channel),
+        sender: UserId(1),
+        channel: ChannelId(1),
         topic: Text::from_str(alloc, "lunch")?,
         text: Text::from_str(alloc, "hi @**Ben**")?,
     })
 }
 
-fn join_team(
+/// What the first mention is answered.
+pub fn first_sent() -> Answer {
+    Answer::Sent {
+        message: MessageId(1),
+        deal: DealNo(0),
+    }
+}
+
+/// Starts an office over a keeper, at moment 0.
+pub fn start(
+    rt: &impl Abort,
+    alloc: Global,
+    keeper: MemoryKeeper,
+) -> Result<Office<MemoryKeeper>, Fail> {
+    match Office::start(alloc, keeper, moment(rt, 0)) {
+        Ok(office) => Ok(office),
+        Err(_) => Err(Fail::from("no start")),
+    }
+}
+
+/// Starts an office on a keeper that keeps nothing yet, and of which these calls fail.
+pub fn start_failing(
+    rt: &impl Abort,
+    alloc: Global,
+    failing: &[u64],
+) -> Result<Office<MemoryKeeper>, Fail> {
+    let failing = List::from(Vec::from_slice(alloc, failing)?);
+    start(rt, alloc, MemoryKeeper::new(alloc, failing))
+}
+
+/// Ada and Ben join, and both subscribe to a channel. The keeper's third to seventh calls.
+pub fn join_team(
     rt: &impl Abort,
     alloc: Global,
     office: &mut Office<MemoryKeeper>,
-    now: Moment,
 ) -> Result<(), Fail> {
+    let now = moment(rt, 0);
     let ada = office.ask(add_user(alloc, "Ada")?, now);
     assert_eq!(rt; ada, Ok(Answer::User(UserId(1))));
     let ben = office.ask(add_user(alloc, "Ben")?, now);
@@ -52,24 +83,22 @@ fn join_team(
     let name = Text::from_str(alloc, "team")?;
     let channel = office.ask(Request::AddChannel { name }, now);
     assert_eq!(rt; channel, Ok(Answer::Channel(ChannelId(1))));
-    assert_eq!(rt; office.ask(subscription(1, true), now), Ok(Answer::Done));
-    assert_eq!(rt; office.ask(subscription(2, true), now), Ok(Answer::Done));
+    for user in [1, 2] {
+        assert_eq!(rt; office.ask(subscription(user, true), now), Ok(Answer::Done));
+    }
     Ok(())
 }
 
-/// Ada and Ben, both subscribed to a channel, on a keeper of which the calls of the list fail.
-pub fn team(
+/// The team joins, and at 100 Ada mentions Ben. The keeper's third to eighth calls.
+pub fn join_and_mention(
     rt: &impl Abort,
     alloc: Global,
-    failing: List<u64>,
-) -> Result<Office<MemoryKeeper>, Fail> {
-    let keeper = MemoryKeeper::new(alloc, failing);
-    let now = moment(rt, 0);
-    let Ok(mut office) = Office::start(alloc, keeper, now) else {
-        return Err(Fail::from("no start"));
-    };
-    join_team(rt, alloc, &mut office, now)?;
-    Ok(office)
+    office: &mut Office<MemoryKeeper>,
+) -> Result<(), Fail> {
+    join_team(rt, alloc, office)?;
+    let sent = office.ask(mention(alloc)?, moment(rt, 100));
+    assert_eq!(rt; sent, Ok(first_sent()));
+    Ok(())
 }
 
 /// No notice and no entry.
@@ -91,63 +120,39 @@ pub fn no_counts() -> Counts {
 
 /// So many notices are ready, and so many were handed, each in an entry of its own.
 pub fn counts(ready: u64, handed: u64) -> Counts {
-    let mut counts = no_counts();
-    counts.ready = ready;
-    counts.handed = handed;
-    counts.entries = handed;
-    counts
+    Counts {
+        ready,
+        handed,
+        entries: handed,
+        ..no_counts()
+    }
 }
 
 /// So many notices are in flight.
 pub fn in_flight(flight: u64) -> Counts {
-    let mut counts = no_counts();
-    counts.flight = flight;
-    counts
+    Counts {
+        flight,
+        ..no_counts()
+    }
 }
 
-/// The office counts so, and so does the slow computation over its journal.
-pub fn assert_counts(
-    rt: &impl Abort,
-    alloc: Global,
-    office: &Office<MemoryKeeper>,
-    counts: Counts,
-) -> Result<(), Fail> {
-    assert_eq!(rt; office.audit(), counts);
-    assert_eq!(rt; audit(alloc, office.journal())?, counts);
-    Ok(())
-}
-
-/// The deal was dealt to Ben alone.
-pub fn dealt(alloc: Global, deal: u64, verdict: Verdict) -> Result<Outcome, Fail> {
+/// The first deal was dealt to Ben alone.
+pub fn dealt(alloc: Global, verdict: Verdict) -> Result<Outcome, Fail> {
+    let user = UserId(2);
     let mut verdicts = List::new(alloc);
-    verdicts.push(UserVerdict {
-        user: UserId(2),
-        verdict,
-    })?;
-    let deal = DealNo(deal);
+    verdicts.push(UserVerdict { user, verdict })?;
+    let deal = DealNo(0);
     Ok(Outcome::Dealt { deal, verdicts })
 }
 
-fn one_deal(alloc: Global, deal: u64) -> Result<List<DealNo>, Fail> {
+/// A queue of Ben cleared the first deal.
+pub fn cleared(alloc: Global) -> Result<Outcome, Fail> {
     let mut deals = List::new(alloc);
-    deals.push(DealNo(deal))?;
-    Ok(deals)
-}
-
-/// A queue of Ben cleared the deal.
-pub fn cleared(alloc: Global, deal: u64) -> Result<Outcome, Fail> {
+    deals.push(DealNo(0))?;
     Ok(Outcome::Cleared {
         user: UserId(2),
-        deals: one_deal(alloc, deal)?,
+        deals,
         queue: QueueId { run: 1, number: 1 },
-    })
-}
-
-/// Ben missed the deal.
-pub fn missed(alloc: Global, deal: u64) -> Result<Outcome, Fail> {
-    Ok(Outcome::Missed {
-        user: UserId(2),
-        deals: one_deal(alloc, deal)?,
     })
 }
 
@@ -160,14 +165,6 @@ pub struct Said {
 }
 
 impl Said {
-    pub fn nothing(alloc: Global) -> Said {
-        Said {
-            alloc,
-            next: None,
-            taken: List::new(alloc),
-        }
-    }
-
     pub fn once(alloc: Global, outcome: Outcome) -> Said {
         Said {
             alloc,
@@ -194,19 +191,4 @@ impl Take for Said {
         }
         self.next.take()
     }
-}
-
-/// The office absorbs what the hub says, and answers it.
-pub fn absorb_said(
-    rt: &impl Abort,
-    alloc: Global,
-    office: &mut Office<MemoryKeeper>,
-    seconds: u64,
-    outcome: Outcome,
-) -> Result<(), Fail> {
-    let answer = outcome.copy(alloc)?;
-    let mut said = Said::once(alloc, outcome);
-    let absorbed = office.absorb(&mut said, moment(rt, seconds));
-    assert_eq!(rt; absorbed, Ok(Absorbed::Outcome(answer)));
-    Ok(())
 }

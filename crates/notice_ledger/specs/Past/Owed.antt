@@ -4,12 +4,13 @@ use Rattle.std.specs.Option.{option_map_or}
 use Rattle.std.specs.List.{filter_map, flat_map}
 use Rattle.chat_model.specs.declared.event.Stamped.{Stamped}
 use Rattle.chat_model.specs.declared.event.Event.{Event}
-use Rattle.chat_model.specs.declared.event.Event.TheVariants.{MailTurn}
+use Rattle.chat_model.specs.declared.event.Event.TheVariants.{MailTurn, PushTurn}
 use Rattle.chat_model.specs.declared.ids.UserId.{UserId}
 use Rattle.chat_model.specs.declared.ids.GroupId.{GroupId}
 use Rattle.chat_model.specs.declared.ids.MessageId.{MessageId}
 use Rattle.chat_model.specs.declared.ids.DealNo.{DealNo}
 use Rattle.chat_model.specs.declared.deal.Outcome.{Outcome}
+use Rattle.chat_model.specs.declared.push_item.PushItem.TheVariants.{Notify}
 use Rattle.chat_model.specs.declared.row.Cause.{Cause}
 use Rattle.chat_model.specs.declared.row.Cause.TheVariants.{SwitchedOff}
 use Rattle.chat_model.specs.declared.settings.Settings.{Settings}
@@ -138,14 +139,19 @@ abbrev pub is_mail_turn_of : UserId → Event → Bool
 is_mail_turn_of u (MailTurn v) = v.0 == u.0
 is_mail_turn_of u _ = false
 
--- an event is a turn of the notice's user by its way
-abbrev pub is_turn_of : UserId → Way → Event → Bool
-is_turn_of u Mail e = is_mail_turn_of u e
-is_turn_of u Push e = false
+-- an event is the push turn of the user's notice of the message
+abbrev pub is_push_turn_of : UserId → MessageId → Event → Bool
+is_push_turn_of u m (PushTurn (Notify v n)) = v.0 == u.0 && n.0 == m.0
+is_push_turn_of u m _ = false
+
+-- an event is a turn of a notice: by mail one of its user, and by push one of the notice itself
+abbrev pub is_turn_of : UserId → MessageId → Way → Event → Bool
+is_turn_of u m Mail e = is_mail_turn_of u e
+is_turn_of u m Push e = is_push_turn_of u m e
 
 -- a notice's turn is the first after its ready event
 abbrev pub turn : List Stamped → Notice → Option Occurrence
-turn j n = option_and_then (λ r. first_behind r.place (λ o. is_turn_of n.user n.way o.event) j) (ready j n)
+turn j n = option_and_then (λ r. first_behind r.place (λ o. is_turn_of n.user n.number n.way o.event) j) (ready j n)
 
 -- the switch that a turn of a way looks at: by mail that of mentions, and by push that of mentions or that of pushes to a
 -- user who is online
@@ -181,9 +187,18 @@ at_turn j n = option_and_then (λ t. if is_unbarred n t then Some (decided n t) 
 abbrev pub account_of : List Stamped → Notice → Account
 account_of j n = account_by (at_turn j n) (cause_of_bar j n) (is_some (ready j n)) (was_cleared j n) (was_dealt j n)
 
+-- the owed notice of a user, a message and a way, if there is one
+abbrev pub notice_to : List Stamped → UserId → MessageId → Way → Option Notice
+notice_to j u m w = find (is_of u m w) (notices j)
+
 -- where the notice of a user, a message and a way stands
 abbrev pub account : List Stamped → UserId → MessageId → Way → Account
-account j u m w = option_map_or (account_of j) (find (is_of u m w) (notices j)) NotOwed
+account j u m w = option_map_or (account_of j) (notice_to j u m w) NotOwed
+
+-- a notice that was handed over
+abbrev pub is_handed : Account → Bool
+is_handed Handed = true
+is_handed _ = false
 
 -- a notice that an event or a live queue cancelled
 abbrev pub is_cancelled : Account → Bool

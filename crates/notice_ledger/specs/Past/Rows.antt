@@ -13,6 +13,7 @@ use Rattle.notice_ledger.specs.declared.accounts.Account.{Account}
 use Rattle.notice_ledger.specs.declared.accounts.Account.TheVariants.{Flight, Held, Ready}
 use Rattle.notice_ledger.specs.Past.Values.{Person, people, SentMessage, messages, settings}
 use Rattle.notice_ledger.specs.Past.Owed.{Notice, notices, account_of}
+use Rattle.notice_ledger.specs.Past.Pushes.{is_active}
 use Rattle.notice_ledger.specs.Past.Outbox.{outbox}
 
 -- a row for each user, with its settings at the end
@@ -36,6 +37,10 @@ stage_of _ = None
 abbrev pub pending_row : List Stamped → Notice → Option Row
 pending_row j n = option_map (λ s. row.Pending n.user n.number n.way n.trigger n.deal s) (stage_of (account_of j n))
 
+-- a row for an active push
+abbrev pub active_row : List Stamped → Notice → Option Row
+active_row j n = if is_active j n then Some (row.Active n.user n.number) else None
+
 -- a row for each outbox entry, which nothing spools yet
 abbrev pub outbox_rows_from : ℕ → List Entry → List Row
 outbox_rows_from n [] = []
@@ -43,7 +48,7 @@ outbox_rows_from n (e ∷ es) = row.Outbox (record { 0 = n }) e false ∷ outbox
 
 -- what has a row, table by table
 abbrev pub listed_rows : List Stamped → List Row
-listed_rows j = user_rows_from j 1 (people j) ++ (message_rows_from 1 (messages j) ++ (filter_map (pending_row j) (notices j) ++ outbox_rows_from 1 (outbox j)))
+listed_rows j = user_rows_from j 1 (people j) ++ (message_rows_from 1 (messages j) ++ (filter_map (pending_row j) (notices j) ++ (filter_map (active_row j) (notices j) ++ outbox_rows_from 1 (outbox j))))
 
 -- a row before the first one whose key is greater
 abbrev pub put_by_key : Row → List Row → List Row

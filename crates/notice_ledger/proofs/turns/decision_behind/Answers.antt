@@ -8,20 +8,20 @@ use Rattle.notice_ledger.proofs.Search.{none-next, found-next, none-all}
 use Rattle.notice_ledger.proofs.turns.decision_behind.Goals as goal
 
 pub loop-i-init : goal.loop-i-init
-loop-i-init c = let n = c.args.notice.now in first_behind-nil c.args.place (λ o. is_turn_of n.user n.way o.event)
+loop-i-init c = let n = c.args.notice.now in first_behind-nil c.args.place (λ o. is_turn_of n.user n.message n.way o.event)
 
 pub loop-i-preserved : goal.loop-i-preserved
 loop-i-preserved c =
     let n = c.args.notice.now in
-    let same = ap (λ (t : Stamped). nat_lt c.args.place c.loop-i.i && is_turn_of n.user n.way t.event) c.index-journal-i.is in
-    none-next c.args.place (λ o. is_turn_of n.user n.way o.event) c.args.journal.now c.loop-i.i c.index-journal-i.result c.loop-i-test.true c.index-journal-i.is c.loop-i.invariant (same ∙ (sym c.is_turn_behind.ensures ∙ c.if-is_turn_behind.false))
+    let same = ap (λ (t : Stamped). nat_lt c.args.place c.loop-i.i && is_turn_of n.user n.message n.way t.event) c.index-journal-i.is in
+    none-next c.args.place (λ o. is_turn_of n.user n.message n.way o.event) c.args.journal.now c.loop-i.i c.index-journal-i.result c.loop-i-test.true c.index-journal-i.is c.loop-i.invariant (same ∙ (sym c.is_turn_behind.ensures ∙ c.if-is_turn_behind.false))
 
 pub returns-then-is_turn_behind : goal.returns-then-is_turn_behind
 returns-then-is_turn_behind c =
     let n = c.args.notice.now in
-    let same = ap (λ (t : Stamped). nat_lt c.args.place c.loop-i.i && is_turn_of n.user n.way t.event) c.index-journal-i.is in
+    let same = ap (λ (t : Stamped). nat_lt c.args.place c.loop-i.i && is_turn_of n.user n.message n.way t.event) c.index-journal-i.is in
     ap Some c.decided.ensures
-    ∙ sym (ap (option_map (decided_kept n)) (found-next c.args.place (λ o. is_turn_of n.user n.way o.event) c.args.journal.now c.loop-i.i c.index-journal-i.result c.loop-i-test.true c.index-journal-i.is c.loop-i.invariant (same ∙ (sym c.is_turn_behind.ensures ∙ c.if-is_turn_behind.true))))
+    ∙ sym (ap (option_map (decided_kept n)) (found-next c.args.place (λ o. is_turn_of n.user n.message n.way o.event) c.args.journal.now c.loop-i.i c.index-journal-i.result c.loop-i-test.true c.index-journal-i.is c.loop-i.invariant (same ∙ (sym c.is_turn_behind.ensures ∙ c.if-is_turn_behind.true))))
 
 pub returns : goal.returns
-returns c = let n = c.args.notice.now in sym (ap (option_map (decided_kept n)) (none-all c.args.place (λ o. is_turn_of n.user n.way o.event) c.args.journal.now c.loop-i.i c.loop-i-test.false c.loop-i.invariant))
+returns c = let n = c.args.notice.now in sym (ap (option_map (decided_kept n)) (none-all c.args.place (λ o. is_turn_of n.user n.message n.way o.event) c.args.journal.now c.loop-i.i c.loop-i-test.false c.loop-i.invariant))

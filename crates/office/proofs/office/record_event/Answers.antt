@@ -1,5 +1,5 @@
-use Rattle.std.proofs.Common.{List, [], ◌∷◌, ◌++◌, Option, sym, ap, ◌∙◌, subst}
-use Rattle.std.specs.Prelude.{◌≡◌, Result, IfErr, option_map}
+use Rattle.std.proofs.Common.{◌≡◌, List, [], ◌∷◌, ◌++◌, Option, sym, ap, ◌∙◌, subst}
+use Rattle.std.specs.Prelude.{IfErr, option_map}
 use Rattle.std.proofs.lemmas.Result.{err_from_is_err_and}
 use Rattle.chat_model.specs.Counts.{HasRisen}
 use Rattle.office.specs.declared.answer.StepFault.{StepFault}
@@ -10,35 +10,39 @@ use Rattle.keeper.specs.declared.keeper.Kept.{Kept}
 use Rattle.keeper.specs.Kept.{committed}
 use Rattle.book_tables.specs.Prepared.{changes_of}
 use Rattle.office.specs.Office.{IsOffice}
-use Rattle.office.proofs.Offices.{same_office, office_after}
+use Rattle.office.proofs.Offices.{office_after}
 use Rattle.office.proofs.office.record_event.Goals as goal
 
-pub prepare-requires : goal.prepare-requires
-prepare-requires g c = (c.args.journal.now.items, c.requires.office.tables, c.requires.lawful)
+pub make_ready-requires : goal.make_ready-requires
+make_ready-requires g c = record { lawful = c.requires.lawful; tables = c.requires.office.tables }
 
-pub returns-in_err-reserve-clause-office : goal.returns-in_err-reserve-clause-office
-returns-in_err-reserve-clause-office g c = same_office c.args.tables.now c.reserve.new.self c.args.journal.now.items (g.K.Keeper.kept c.args.keeper.now) c.requires.office c.reserve.ensures.same
+pub apply-requires : goal.apply-requires
+apply-requires g c =
+    let ready = c.in_ok-prepared.ensures.ready in
+    record {
+      room = ready.room;
+      prepared = (c.args.journal.now.items, c.args.stamped, c.make_ready.ensures.tables, c.requires.lawful, ready.prepared);
+    }
 
-pub returns-in_err-reserve-2-clause-office : goal.returns-in_err-reserve-2-clause-office
-returns-in_err-reserve-2-clause-office g c =
-    subst (λ (j : List Stamped). IsOffice (g.K.Keeper.kept c.args.keeper.now) j c.reserve.new.self) (sym c.reserve-2.ensures.items)
-    (same_office c.args.tables.now c.reserve.new.self c.args.journal.now.items (g.K.Keeper.kept c.args.keeper.now) c.requires.office c.reserve.ensures.same)
+pub returns-in_err-prepared-clause-office : goal.returns-in_err-prepared-clause-office
+returns-in_err-prepared-clause-office g c =
+    subst (λ (j : List Stamped). IsOffice (g.K.Keeper.kept c.args.keeper.now) j c.make_ready.new.tables) (sym c.make_ready.ensures.journal)
+    (record { tables = c.make_ready.ensures.tables; kept = c.requires.office.kept })
 
 pub returns-in_err-commit-clause-office : goal.returns-in_err-commit-clause-office
 returns-in_err-commit-clause-office g c =
-    subst (λ (j : List Stamped). IsOffice (g.K.Keeper.kept c.commit.new.keeper) j c.reserve.new.self) (sym c.reserve-2.ensures.items)
-    (subst (λ (k : Option Kept). IsOffice k c.args.journal.now.items c.reserve.new.self) (sym c.in_err-commit.ensures.err)
-    (same_office c.args.tables.now c.reserve.new.self c.args.journal.now.items (g.K.Keeper.kept c.args.keeper.now) c.requires.office c.reserve.ensures.same))
+    subst (λ (j : List Stamped). IsOffice (g.K.Keeper.kept c.commit.new.keeper) j c.make_ready.new.tables) (sym c.make_ready.ensures.journal)
+    (subst (λ (k : Option Kept). IsOffice k c.args.journal.now.items c.make_ready.new.tables) (sym c.in_err-commit.ensures.err)
+    (record { tables = c.make_ready.ensures.tables; kept = c.requires.office.kept }))
 
 pub returns-clause-office : goal.returns-clause-office
 returns-clause-office g c =
     let told = g.K.Keeper.kept c.args.keeper.now in let s = c.args.stamped in let j = c.args.journal.now.items in
-    let p = c.in_ok-prepared.prepared in let stands = c.requires.office.tables in
-    subst (λ (x : List Stamped). IsOffice (g.K.Keeper.kept c.commit.new.keeper) x c.apply.new.self) (sym (c.push_reserved.ensures.items ∙ ap (λ x. x ++ s ∷ []) c.reserve-2.ensures.items))
+    let p = c.in_ok-prepared.prepared in let ready = c.in_ok-prepared.ensures.ready in
+    subst (λ (x : List Stamped). IsOffice (g.K.Keeper.kept c.commit.new.keeper) x c.apply.new.self) (sym (c.push_reserved.ensures.items ∙ ap (λ x. x ++ s ∷ []) c.make_ready.ensures.journal))
     (subst (λ (k : Option Kept). IsOffice k (j ++ s ∷ []) c.apply.new.self) (sym (c.in_ok-commit.ensures.ok ∙ ap (λ (x : List RowChange). option_map (committed s x) told) c.changes.ensures))
-    (office_after c.args.tables.now c.apply.new.self j s told (changes_of p) c.requires.office
-    (c.in_ok-prepared.ensures.changes j stands c.requires.lawful)
-    (c.apply.ensures j s (c.reserve.ensures.same j stands) c.requires.lawful (c.in_ok-prepared.ensures.prepared j stands))))
+    (office_after c.apply.new.self j s told (changes_of p) c.requires.office.kept ready.changes
+    (c.apply.ensures j s c.make_ready.ensures.tables c.requires.lawful ready.prepared)))
 
 -- what `?` hands on is the fault of the commit
 pub returns-in_err-commit-clause-fault : goal.returns-in_err-commit-clause-fault

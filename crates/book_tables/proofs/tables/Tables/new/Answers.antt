@@ -1,4 +1,4 @@
-use Rattle.std.proofs.Common.{List, sym, subst, refl}
+use Rattle.std.proofs.Common.{List, sym, ap, subst, refl}
 use Rattle.chat_model.specs.declared.event.Stamped.{Stamped}
 use Rattle.notice_ledger.proofs.LawfulLemmas.{IsLawful-nil}
 use Rattle.book_tables.specs.declared.tables.Tables.{Tables}
@@ -22,11 +22,13 @@ returns c =
       messages = c.new-9.result;
       waiting = c.new-10.result;
       batches = c.new-11.result;
-      deals = c.new-12.result;
-      outbox = c.new-13.result;
+      pushes = c.new-12.result;
+      active = c.new-13.result;
+      deals = c.new-14.result;
+      outbox = c.new-15.result;
       handed = 0;
       off = 0;
       live = 0;
     } in
     subst (λ (j : List Stamped). Holds t j) (sym IsLawful-nil)
-    (empty_stands t c.in-Some.ensures.value refl c.new-2.ensures.items c.new-3.ensures.items c.new-5.ensures.items c.new-6.ensures.items c.new-7.ensures.items c.new-8.ensures.items c.new-9.ensures.items c.new-10.ensures.items c.new-11.ensures c.new-12.ensures.items c.new-13.ensures.items c.new-4.ensures.items refl refl refl)
+    (empty_stands t c.in-Some.ensures.value refl c.new-2.ensures.items c.new-3.ensures.items c.new-5.ensures.items c.new-6.ensures.items c.new-7.ensures.items c.new-8.ensures.items c.new-9.ensures.items c.new-10.ensures.items c.new-11.ensures (ap (λ q. q.items) c.new-12.ensures) c.new-13.ensures.items c.new-14.ensures.items c.new-15.ensures.items c.new-4.ensures.items refl refl refl)

@@ -59,7 +59,7 @@ loop-message-preserved c = λ past h.
     let own = found t past h u ms i m c.rows-message-items.ensures c.loop-message-test.true (stands ms i none c.loop-message-test.true) in
     let n = own.made.from in let ws = t.waiting.items in
     let order = in_order t past h in let numbered_all = numbered_so t past h in
-    elim c.match-find_batch_row.branch [
+    elim c.match-find_ready.branch [
       | in-Some+in-Some-item_at+in_ok-ready_item+in_ok-push w ↦
           let only = subst (λ (vs : List Waiting). IsInOrder vs → AreNumbered vs → IsOnly (is_batch_row u m) vs w.in-Some.place) c.deref.ensures.value w.in-Some.ensures.found order numbered_all in
           let within : w.in-Some.place < length ws = subst (λ (vs : List Waiting). w.in-Some.place < length vs) c.deref.ensures.value w.in-Some.ensures.within in

@@ -19,6 +19,12 @@ returns-in-Mail-clause-step g c =
     subst (λ (l : Line). IsStep c.args.self.now.world l (Some c.mail.result) after) (sym c.in-Mail.is)
     (subst (λ (p : Playing). IsStep p.world line.Mail (Some c.mail.result) after) c.self.view_is (c.mail.ensures.step (untaken c.self.inside.hub)))
 
+pub returns-in-Push-clause-step : goal.returns-in-Push-clause-step
+returns-in-Push-clause-step g c =
+    let after = world c.push.new.office.journal (untaken c.self.inside.hub) c.self.inside.clock in
+    subst (λ (l : Line). IsStep c.args.self.now.world l (Some c.push.result) after) (sym c.in-Push.is)
+    (subst (λ (p : Playing). IsStep p.world line.Push (Some c.push.result) after) c.self.view_is (c.push.ensures.step (untaken c.self.inside.hub)))
+
 pub returns-in-Sweep-clause-step : goal.returns-in-Sweep-clause-step
 returns-in-Sweep-clause-step g c =
     let after = world c.self.inside.office.journal (untaken c.sweep.new.hub) c.self.inside.clock in

@@ -1,7 +1,6 @@
 use Rattle.std.proofs.Common.{◌≡◌, ℕ, ◌+◌, ◌-◌, ◌≤◌, List, [], ◌∷◌, ◌++◌, length, sym, ap, ◌∙◌, refl, subst, arith}
 use Rattle.chat_model.specs.declared.event.Stamped.{Stamped}
 use Rattle.chat_model.specs.declared.event.Event.TheVariants.{MailTurn}
-use Rattle.notice_ledger.specs.Journal.{stamp}
 use Rattle.notice_ledger.specs.Past.Outbox as past
 use Rattle.notice_ledger.specs.Lawful.{lawful}
 use Rattle.notice_ledger.proofs.LawfulLemmas.{lawful-next}
