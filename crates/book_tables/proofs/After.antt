@@ -55,7 +55,8 @@ use Rattle.book_tables.specs.declared.tables.Message.{Message}
 use Rattle.book_tables.specs.declared.tables.Tables.{Tables}
 use Rattle.book_tables.specs.declared.prepared.Effect.{Effect}
 use Rattle.book_tables.specs.declared.prepared.Effect.TheVariants as effect
-use Rattle.book_tables.specs.UserSets.{users_in, IsSet}
+use Rattle.book_tables.specs.UserSets.{IsSet}
+use Rattle.user_set.specs.UserSets.{users_in}
 use Rattle.book_tables.specs.declared.preferences.Preference.{Preference}
 use Rattle.book_tables.specs.declared.preferences.Preference.TheVariants as preference
 use Rattle.book_tables.specs.Preferences.{Preferred, default_preferred, preferred_by, preferred_after}

@@ -51,7 +51,9 @@ use Rattle.book_tables.specs.declared.tables.Message.{Message}
 use Rattle.book_tables.specs.declared.tables.Waiting.{Waiting}
 use Rattle.book_tables.specs.declared.tables.Tables.{Tables}
 use Rattle.book_tables.specs.declared.prepared.Effect.{Effect}
-use Rattle.book_tables.specs.UserSets.{users_in, users_after, changed_numbered, IsSet}
+use Rattle.book_tables.specs.UserSets.{changed_numbered, IsSet}
+use Rattle.user_set.specs.Users.{users_after}
+use Rattle.user_set.specs.UserSets.{users_in}
 use Rattle.book_tables.specs.Preferences.{Preferred, preferred, preferred_in, preferred_by}
 use Rattle.mail_batches.specs.Batches.{Waiting as Batches, Batch, due_of, rows_of}
 use Rattle.book_tables.specs.Batched.{period_in, BatchesAfter}

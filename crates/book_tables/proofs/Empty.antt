@@ -23,7 +23,8 @@ use Rattle.notice_ledger.proofs.Appended.{notices-nil, people-nil, groups-nil, i
 use Rattle.notice_ledger.proofs.PushItems.{waiting_items-nil}
 use Rattle.notice_ledger.proofs.DealLemmas.{deals-nil, start_count-nil}
 use Rattle.book_tables.specs.declared.tables.Tables.{Tables}
-use Rattle.book_tables.specs.UserSets.{users_in, has_in}
+use Rattle.book_tables.specs.UserSets.{has_in}
+use Rattle.user_set.specs.UserSets.{users_in}
 use Rattle.book_tables.specs.Preferences.{default_preferred, preferred_in}
 use Rattle.mail_batches.specs.Batches.{Waiting as Batches}
 use Rattle.book_tables.specs.Tables.{Holds, HoldBatches, message_kept, notice_kept, cleared_kept, stays, is_live}

@@ -31,7 +31,6 @@ pub mod UserSets
 pub mod PreferenceLemmas
 pub mod SetSizes
 pub mod Standing
-pub mod SetPlaces
 pub mod Following
 pub mod BatchesAfter
 pub mod Addressed

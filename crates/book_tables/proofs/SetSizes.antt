@@ -12,12 +12,15 @@ use Rattle.chat_model.specs.declared.ids.UserId.{UserId}
 use Rattle.notice_ledger.specs.Past.Values.{numbered, people, is_user, is_one_of}
 use Rattle.notice_ledger.specs.InOrder.{is_ascending}
 use Rattle.chat_model.specs.Ascending.{put_once_by}
-use Rattle.chat_model.proofs.OnceEach.{ascending-below, ascending-cons, put_once-cases, put_once-ascending}
+use Rattle.chat_model.proofs.OnceEach.{put_once-cases}
 use Rattle.notice_ledger.proofs.Lists.{AllByRecursion-filter}
 use Rattle.notice_ledger.proofs.InOrder.{ascending-distinct, ascending-rest}
+use Rattle.user_set.proofs.ChangedUsers.{ascending-after}
 use Rattle.book_tables.proofs.Numbered.{if_numbered}
-use Rattle.book_tables.specs.declared.user_set.UserSet.{UserSet}
-use Rattle.book_tables.specs.UserSets.{users_in, has_in, size_in, users_after, changed_at, changed_numbered, IsSet, AreUserSets}
+use Rattle.user_set.specs.declared.set.UserSet.{UserSet}
+use Rattle.book_tables.specs.UserSets.{has_in, size_in, changed_at, changed_numbered, IsSet, AreUserSets}
+use Rattle.user_set.specs.Users.{users_after}
+use Rattle.user_set.specs.UserSets.{users_in}
 
 -- ---- what keeps a set one
 
@@ -28,22 +31,10 @@ number u = u.0
 abbrev IsWithin : ℕ → UserId → Type 0
 IsWithin n u = (0 < u.0) × (u.0 ≤ n)
 
-ascending-filter : (p : UserId → Bool) (us : List UserId) → is_ascending us ≡ true → is_ascending (filter p us) ≡ true
-ascending-filter p [] h = refl
-ascending-filter p (u ∷ us) h =
-    elim (p u) as (λ b. is_ascending (cond b (u ∷ filter p us) (filter p us)) ≡ true) [
-      | true ↦ ascending-cons number u (filter p us) (AllByRecursion-filter (λ (v : UserId). u.0 < v.0) p us (ascending-below number u us h)) (ascending-filter p us (ascending-rest u us h))
-      | false ↦ ascending-filter p us (ascending-rest u us h)
-    ]
-
 within-put : (n : ℕ) (u : UserId) (us : List UserId) → IsWithin n u → AllByRecursion (IsWithin n) us → AllByRecursion (IsWithin n) (put_once_by number u us)
 within-put n u [] it all = (it, tt)
 within-put n u (v ∷ us) it all =
     put_once-cases number (AllByRecursion (IsWithin n)) u v us (λ _. (it, all)) (λ _. all) (λ _. (all.0, within-put n u us it all.1))
-
-pub ascending-after : (us : List UserId) (u : UserId) (on : Bool) → is_ascending us ≡ true → is_ascending (users_after u on us) ≡ true
-ascending-after us u true h = put_once-ascending number u us h
-ascending-after us u false h = ascending-filter (λ v. not (v.0 == u.0)) us h
 
 IsSet-after : (n : ℕ) (us : List UserId) (u : UserId) (on : Bool) → IsSet n us → 0 < u.0 → u.0 ≤ n → IsSet n (users_after u on us)
 IsSet-after n us u true set low high = (ascending-after us u true set.0, within-put n u us (low, high) set.1)

@@ -10,7 +10,7 @@ use Rattle.chat_model.specs.declared.ids.UserId.{UserId}
 use Rattle.notice_ledger.specs.Past.Values.{people, groups, channels, messages}
 use Rattle.notice_ledger.specs.Past.Due.{batch_rows}
 use Rattle.book_tables.specs.declared.tables.Tables.{Tables}
-use Rattle.book_tables.specs.UserSets.{users_in}
+use Rattle.user_set.specs.UserSets.{users_in}
 use Rattle.book_tables.specs.Preferences.{preferred}
 use Rattle.mail_batches.specs.Batches.{Waiting as Batches, Batch, due_of, rows_of}
 use Rattle.book_tables.specs.Tables.{Holds, HoldBatches}

@@ -7,8 +7,10 @@ use Rattle.std.proofs.lemmas.Bool.Decides.{nat_tests, eqb_tells}
 use Rattle.chat_model.proofs.OnceEach.{put_once-has}
 use Rattle.chat_model.specs.declared.ids.UserId.{UserId}
 use Rattle.notice_ledger.specs.Past.Values.{numbered, is_one_of}
-use Rattle.book_tables.specs.declared.user_set.UserSet.{UserSet}
-use Rattle.book_tables.specs.UserSets.{users_in, has_in, users_after, changed_at, changed_numbered}
+use Rattle.user_set.specs.declared.set.UserSet.{UserSet}
+use Rattle.book_tables.specs.UserSets.{has_in, changed_at, changed_numbered}
+use Rattle.user_set.specs.Users.{users_after}
+use Rattle.user_set.specs.UserSets.{users_in}
 use Rattle.book_tables.proofs.Numbered.{numbered-map}
 
 -- the user is in the set of a number

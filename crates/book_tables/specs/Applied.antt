@@ -19,7 +19,9 @@ use Rattle.book_tables.specs.declared.tables.Waiting.{Waiting}
 use Rattle.book_tables.specs.declared.tables.Tables.{Tables}
 use Rattle.book_tables.specs.declared.prepared.Effect.{Effect}
 use Rattle.book_tables.specs.declared.prepared.Effect.TheVariants as effect
-use Rattle.book_tables.specs.UserSets.{users_in, users_after, changed_numbered}
+use Rattle.book_tables.specs.UserSets.{changed_numbered}
+use Rattle.user_set.specs.Users.{users_after}
+use Rattle.user_set.specs.UserSets.{users_in}
 use Rattle.book_tables.specs.Notices.{is_ready_mail_to, is_ready_of, is_undecided, is_named, of_deal, moved, put_all_in_order, readied, readied_if, dealt_to, IsInOrder}
 use Rattle.book_tables.specs.declared.preferences.Preference.{Preference}
 use Rattle.book_tables.specs.Preferences.{Preferred, preferred, preferred_in, default_preferred, preferred_after}

@@ -48,7 +48,7 @@ use Rattle.book_tables.specs.declared.prepared.Effect.{Effect}
 use Rattle.book_tables.specs.declared.prepared.Effect.TheVariants as effect
 use Rattle.book_tables.specs.declared.prepared.Prepared.{Prepared}
 use Rattle.book_tables.specs.Pushes.{item_of, has_push}
-use Rattle.book_tables.specs.UserSets.{users_in}
+use Rattle.user_set.specs.UserSets.{users_in}
 use Rattle.notice_ledger.specs.declared.destination.Destination.{Destination}
 use Rattle.notice_ledger.specs.declared.destination.Destination.TheVariants as destination
 use Rattle.book_tables.specs.declared.preferences.Preference.TheVariants as preference

@@ -7,7 +7,7 @@ use Rattle.book_tables.specs.declared.prepared.Effect.TheVariants as effect
 use Rattle.book_tables.specs.declared.prepared.Prepared.{Prepared}
 use Rattle.book_tables.specs.Notices.{of_deal, IsInOrder}
 use Rattle.book_tables.specs.Preferences.{HasPlaceFor}
-use Rattle.book_tables.specs.UserSets.{HasPlace}
+use Rattle.user_set.specs.UserSets.{HasPlace}
 
 -- the tables have room for the effect: a user who leaves a set needs none, each notice that becomes ready may be a row of a
 -- batch, and each push that becomes ready makes an item

@@ -1,16 +1,12 @@
 -- Users who stand together, each once: the subscribers of a channel, or the members of a group.
-use Rattle.std.specs.Prelude.{◌≡◌, ℕ, zero, suc, ◌<◌, ◌≤◌, Bool, true, false, not, ◌==◌, List, [], ◌∷◌, length, filter, map, vec_len, vec_capacity}
+use Rattle.std.specs.Prelude.{◌≡◌, ℕ, zero, suc, ◌<◌, ◌≤◌, Bool, true, false, List, [], ◌∷◌, length, map}
 use Rattle.std.specs.List.{AllByRecursion}
 use Rattle.std.specs.Option.{option_map_or}
 use Rattle.chat_model.specs.declared.ids.UserId.{UserId}
-use Rattle.chat_model.specs.Ascending.{put_once_by}
 use Rattle.notice_ledger.specs.InOrder.{is_ascending}
 use Rattle.notice_ledger.specs.Past.Values.{numbered, is_one_of}
-use Rattle.book_tables.specs.declared.user_set.UserSet.{UserSet}
-
--- the users of a set
-abbrev pub users_in : UserSet → List UserId
-users_in c = c.users.items
+use Rattle.user_set.specs.declared.set.UserSet.{UserSet}
+use Rattle.user_set.specs.UserSets.{users_in}
 
 -- the user is in the set of a number, from 1
 abbrev pub has_in : List UserSet → ℕ → UserId → Bool
@@ -19,11 +15,6 @@ has_in sets n u = option_map_or (λ c. is_one_of c.users.items u) (numbered n se
 -- how many users the set of a number has, none where it is not there
 abbrev pub size_in : List UserSet → ℕ → ℕ
 size_in sets n = option_map_or (λ c. length c.users.items) (numbered n sets) 0
-
--- users after one comes or goes
-abbrev pub users_after : UserId → Bool → List UserId → List UserId
-users_after u true us = put_once_by (λ v. v.0) u us
-users_after u false us = filter (λ v. not (v.0 == u.0)) us
 
 -- a list with its n-th element changed, from 0
 abbrev pub changed_at : {A : Type 0} → ℕ → (A → A) → List A → List A
@@ -35,10 +26,6 @@ changed_at (suc n) f (x ∷ xs) = x ∷ changed_at n f xs
 abbrev pub changed_numbered : {A : Type 0} → ℕ → (A → A) → List A → List A
 changed_numbered zero f xs = xs
 changed_numbered (suc n) f xs = changed_at n f xs
-
--- a set has room for one more user
-abbrev pub HasPlace : UserSet → Type 0
-HasPlace c = vec_len c.users < vec_capacity c.users
 
 -- they ascend, and each is one of the first `n` users
 abbrev pub IsSet : ℕ → List UserId → Type 0

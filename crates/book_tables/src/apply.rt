@@ -18,9 +18,9 @@ use crate::pushes::PushKey;
 use crate::receipts::set_mark_of;
 use crate::sets::{change_set, reserve_in_set};
 use crate::tables::Tables;
-use crate::user_set::UserSet;
 use crate::waiting::{clear_named, find_deal, put_taken, take_batch_rows, take_ready};
 use chat_model::{Cause, DealNo, Entry, MessageId, Moment, OutOfMemory, PushItem, UserId, Way};
+use user_set::UserSet;
 
 impl Tables {
     ghost use Rattle.book_tables.specs.Tables.{StandsFor};

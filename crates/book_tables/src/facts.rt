@@ -9,13 +9,13 @@ ghost use Rattle.book_tables.specs.Gathered.{topic_of, took_part_from, IsGathere
 use crate::receipts::is_marked;
 use crate::tables::{Message, Tables, item_at};
 use crate::topic_key::TopicKey;
-use crate::user_set::UserSet;
 use chat_model::{
     ChannelId, Facts, List as UserList, Mentions, OutOfMemory, Policy, Settings, Specific, UserId,
     ascending_users,
 };
 use notice_ledger::Destination;
 use std::alloc::Global;
+use user_set::UserSet;
 
 /// What is gathered of a message once, for all of its recipients.
 #[derive(Debug, Drop)]

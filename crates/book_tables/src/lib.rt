@@ -27,7 +27,6 @@ mod rows;
 mod sets;
 mod tables;
 mod topic_key;
-mod user_set;
 mod waiting;
 
 pub use mail_batches::DueUser;

@@ -13,7 +13,6 @@ ghost use Rattle.notice_ledger.specs.Past.Triggers.{mentions_of, is_named, is_me
 use crate::facts::{Gathered, set_of};
 use crate::sets::{is_in_one, is_in_set, size_of_set};
 use crate::tables::{Message, Tables, Waiting, item_at};
-use crate::user_set::UserSet;
 use chat_model::{
     ChannelId, DealNo, Facts, GroupId, Mentions, MessageId, OutOfMemory, Stage, Text, Trigger,
     UserId, Way,
@@ -21,6 +20,7 @@ use chat_model::{
 use mention_scan::{resolve, scan};
 use notice_ledger::Destination;
 use trigger_rules::trigger;
+use user_set::UserSet;
 
 /// Whether the trigger is a mention.
 fn is_mention(trigger: Trigger) -> bool

@@ -10,13 +10,13 @@ ghost use Rattle.book_tables.specs.Preferences.{preferred, default_preferred, pr
 
 use crate::tables::item_at;
 use crate::topic_key::TopicKey;
-use crate::user_set::UserSet;
 use chat_model::{
     ChannelId, OutOfMemory, Policy, SettingChange, Settings, Specific, SpecificChange, Text, UserId,
 };
 use std::alloc::Global;
 use std::collections::HashMap;
 use std::hash::Hash;
+use user_set::UserSet;
 
 /// What a user set. What was never set isn't kept, and is found as the default: a channel's settings as `Mute or unmute
 /// a channel` of Zulip's help center has them, a topic's policy as its `Follow a topic` has it.

@@ -11,7 +11,7 @@ ghost use Rattle.notice_ledger.specs.Lawful.{lawful, is_lawful_after};
 ghost use Rattle.notice_ledger.specs.Rows.{rows};
 ghost use Rattle.notice_ledger.specs.Past.Rows.{outbox_rows_from};
 ghost use Rattle.book_tables.specs.Pushes.{push_of};
-ghost use Rattle.book_tables.specs.UserSets.{users_in};
+ghost use Rattle.user_set.specs.UserSets.{users_in};
 ghost use Rattle.book_tables.specs.Notices.{IsInOrder, is_barred, is_undecided, is_undecided_at, is_undecided_of, readied, dealt_to, named_by};
 ghost use Rattle.chat_model.specs.Outcomes.{is_idle, is_live};
 ghost use Rattle.book_tables.specs.Prepared.{notice_row, key_of_notice, active_row, turn_rows, puts_where, removes_where, removed_mail, changes_of};
@@ -20,7 +20,6 @@ use crate::facts::set_of;
 use crate::preferences::Preference;
 use crate::pushes::{PushKey, dealt_pushes, missed_pushes, once_each, undecided_pushes};
 use crate::tables::{Message, Tables, Waiting};
-use crate::user_set::UserSet;
 use crate::waiting::{find_deal, find_undecided};
 use chat_model::{
     Cause, ChannelId, Deal, DealNo, Entry, EntryNo, Event, GroupId, GroupName, List, MessageId,
@@ -29,6 +28,7 @@ use chat_model::{
 };
 use notice_ledger::Destination;
 use std::alloc::Global;
+use user_set::UserSet;
 
 /// What an event will change: the kept rows, and the tables.
 #[derive(Debug, Drop)]

@@ -10,12 +10,11 @@ ghost use Rattle.notice_ledger.specs.Past.Outbox.{push_entry, push_entries};
 ghost use Rattle.notice_ledger.specs.Past.Values.{settings};
 ghost use Rattle.notice_ledger.specs.Pushes.{oldest_item};
 ghost use Rattle.push_state.specs.Judged.{judged};
-ghost use Rattle.book_tables.specs.UserSets.{users_in};
+ghost use Rattle.user_set.specs.UserSets.{users_in};
 ghost use Rattle.book_tables.specs.Notices.{is_undecided_push, is_undecided_at, of_deal, IsInOrder};
 ghost use Rattle.book_tables.specs.Pushes.{push_of, item_of, is_readied_push, IsOnceEach};
 
 use crate::tables::{Message, Tables, Waiting, item_at};
-use crate::user_set::UserSet;
 use crate::waiting::{find_deal, find_ready, find_undecided};
 use chat_model::{
     Cause, DealNo, Entry, MessageId, Moment, OutOfMemory, PushItem, Text, Trigger, UserId, Way,
@@ -23,6 +22,7 @@ use chat_model::{
 use mail_batches::ReadyItem;
 use push_state::{Judged, judge};
 use std::alloc::Global;
+use user_set::UserSet;
 
 /// How many characters of a message's text a push shows.
 const SHOWN: usize = 200;

@@ -1,13 +1,13 @@
 //! How the notices that wait move on. A mail that becomes ready joins its user's batch.
 ghost use Rattle.std.specs.Prelude.{◌≡◌, ◌+◌, ◌≤◌, ◌<◌, Some, length, map, filter, slice_get, slice_set, if◌then◌else◌};
-ghost use Rattle.book_tables.specs.UserSets.{users_in};
+ghost use Rattle.user_set.specs.UserSets.{users_in};
 ghost use Rattle.book_tables.specs.Notices.{rank, is_at, of_deal, is_named, moved, readied, readied_if, dealt_to, IsInOrder};
 
 use crate::preferences::period_of;
 use crate::tables::{Tables, Waiting};
-use crate::user_set::UserSet;
 use crate::waiting::{find_deal, find_undecided};
 use chat_model::{DealNo, Moment, UserId, Way};
+use user_set::UserSet;
 
 impl Tables {
     ghost use Rattle.book_tables.specs.Batched.{KeepsBatches, WithNotices, AreReadied, period_in};

@@ -2,11 +2,13 @@
 ghost use Rattle.std.specs.Prelude.{◌≡◌, ◌<◌, true, map, IfSome, OnOk};
 ghost use Rattle.std.specs.List.{list_any};
 ghost use Rattle.notice_ledger.specs.Past.Values.{numbered};
-ghost use Rattle.book_tables.specs.UserSets.{users_in, has_in, size_in, users_after, changed_numbered, HasPlace};
+ghost use Rattle.book_tables.specs.UserSets.{has_in, size_in, changed_numbered};
+ghost use Rattle.user_set.specs.Users.{users_after};
+ghost use Rattle.user_set.specs.UserSets.{users_in, HasPlace};
 
 use crate::tables::item_at;
-use crate::user_set::UserSet;
 use chat_model::{GroupId, OutOfMemory, UserId};
+use user_set::UserSet;
 
 /// Whether the user is in the set of a number.
 pub fn is_in_set(sets: &[UserSet], number: u64, user: UserId) -> bool

@@ -5,7 +5,6 @@ ghost use Rattle.chat_model.specs.declared.event.Stamped.{Stamped};
 ghost use Rattle.notice_ledger.specs.Past.Values.{numbered};
 
 use crate::preferences::Preferences;
-use crate::user_set::UserSet;
 use chat_model::{
     Answer, Cause, ChannelId, Deal, DealNo, Entry, EntryNo, GroupId, GroupName, MessageId, Moment,
     OutOfMemory, Request, Stage, Text, Trigger, UserId, UserName, Way,
@@ -14,6 +13,7 @@ use mail_batches::Batches;
 use notice_ledger::Destination;
 use push_state::PushQueue;
 use std::alloc::Global;
+use user_set::UserSet;
 
 /// A message as it was sent.
 #[derive(Debug, Drop)]

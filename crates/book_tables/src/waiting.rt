@@ -3,12 +3,12 @@
 ghost use Rattle.std.specs.Prelude.{◌≡◌, ◌≤◌, ◌<◌, ◌+◌, ◌*◌, not, ◌&&◌, false, length, map, filter, option_to_list, IfSome};
 ghost use Rattle.std.specs.Vec.{vec_len, vec_capacity};
 ghost use Rattle.std.specs.Option.{MatchOption};
-ghost use Rattle.book_tables.specs.UserSets.{users_in};
+ghost use Rattle.user_set.specs.UserSets.{users_in};
 ghost use Rattle.book_tables.specs.Notices.{rank, is_ready, is_undecided_mail, is_barred, barred_by, put_in_order, put_all_in_order, is_at_stage, is_before, is_at, is_undecided, is_undecided_at, is_ready_of, is_one_batch_row, is_undecided_push, of_deal, is_named, goes_ready, moved, readied, dealt_to, IsInOrder, AreSorted, AreNumbered, IsFound, IsStretchOf};
 
 use crate::tables::Waiting;
-use crate::user_set::UserSet;
 use chat_model::{Cause, DealNo, MessageId, Stage, UserId, Way};
+use user_set::UserSet;
 
 /// Where a way stands: a user's mail notice before the push.
 fn rank(way: Way) -> u64

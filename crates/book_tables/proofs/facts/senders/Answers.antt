@@ -4,7 +4,7 @@ use Rattle.chat_model.specs.declared.ids.ChannelId.{ChannelId}
 use Rattle.chat_model.specs.declared.ids.UserId.{UserId}
 use Rattle.notice_ledger.specs.Past.Values.{is_one_of, is_to_topic}
 use Rattle.book_tables.specs.declared.tables.Message.{Message}
-use Rattle.book_tables.specs.declared.user_set.UserSet.{UserSet}
+use Rattle.user_set.specs.declared.set.UserSet.{UserSet}
 use Rattle.book_tables.specs.Gathered.{took_part_from}
 use Rattle.book_tables.specs.Receipts.{is_marked}
 use Rattle.book_tables.proofs.Barring.{any-more}

@@ -1,5 +1,5 @@
 use Rattle.std.proofs.Common.{◌∙◌}
-use Rattle.book_tables.proofs.SetPlaces.{search-has}
+use Rattle.user_set.proofs.SearchedUsers.{search-has}
 use Rattle.book_tables.proofs.notices.is_among.Goals as goal
 
 pub returns : goal.returns

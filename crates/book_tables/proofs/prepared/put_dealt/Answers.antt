@@ -4,7 +4,7 @@ use Rattle.std.proofs.lemmas.List.{take_all}
 use Rattle.chat_model.specs.declared.row.RowChange.TheVariants.{Put}
 use Rattle.book_tables.specs.declared.tables.Waiting.{Waiting}
 use Rattle.book_tables.specs.Notices.{of_deal, is_undecided, dealt_to}
-use Rattle.book_tables.specs.UserSets.{users_in}
+use Rattle.user_set.specs.UserSets.{users_in}
 use Rattle.book_tables.specs.Prepared.{notice_row}
 use Rattle.book_tables.proofs.Sought.{filter-stretch}
 use Rattle.book_tables.proofs.prepared.put_dealt.Goals as goal

@@ -1,6 +1,6 @@
 use Rattle.std.proofs.Common.{◌≡◌, ◌++◌, take}
 use Rattle.book_tables.specs.Notices.{is_undecided, dealt_to}
-use Rattle.book_tables.specs.UserSets.{users_in}
+use Rattle.user_set.specs.UserSets.{users_in}
 use Rattle.book_tables.specs.Prepared.{puts_where}
 use Rattle.book_tables.proofs.prepared.put_dealt.Given as goal
 

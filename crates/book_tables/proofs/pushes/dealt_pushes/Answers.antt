@@ -1,7 +1,7 @@
 use Rattle.std.proofs.Common.{map, ap, ◌∙◌}
 use Rattle.book_tables.specs.Notices.{of_deal}
 use Rattle.book_tables.specs.Pushes.{push_of, is_readied_push}
-use Rattle.book_tables.specs.UserSets.{users_in}
+use Rattle.user_set.specs.UserSets.{users_in}
 use Rattle.book_tables.proofs.Sought.{filter-stretch}
 use Rattle.book_tables.proofs.pushes.dealt_pushes.Goals as goal
 

@@ -1,6 +1,7 @@
 use Rattle.std.proofs.Common.{◌-◌, map, sym, ◌∙◌, arith}
 use Rattle.std.proofs.lemmas.List.{length-map}
-use Rattle.book_tables.specs.UserSets.{users_in, users_after}
+use Rattle.user_set.specs.Users.{users_after}
+use Rattle.user_set.specs.UserSets.{users_in}
 use Rattle.book_tables.proofs.Numbered.{changed_numbered-from_zero, changed_at-past, map-set_at}
 use Rattle.book_tables.proofs.sets.change_set.Goals as goal
 

@@ -1,7 +1,7 @@
 use Rattle.std.proofs.Common.{◌≡◌, ◌-◌, Option, map, set, sym, ◌∙◌, subst, arith}
 use Rattle.std.specs.Prelude.{IfSome}
-use Rattle.book_tables.specs.declared.user_set.UserSet.{UserSet}
-use Rattle.book_tables.specs.UserSets.{users_in, HasPlace}
+use Rattle.user_set.specs.declared.set.UserSet.{UserSet}
+use Rattle.user_set.specs.UserSets.{users_in, HasPlace}
 use Rattle.book_tables.proofs.Numbered.{numbered-from_zero, changed_at-same, map-set_at, slice_get-set, slice_get-past}
 use Rattle.book_tables.proofs.sets.reserve_in_set.Goals.{After-reserve}
 use Rattle.book_tables.proofs.sets.reserve_in_set.Goals as goal

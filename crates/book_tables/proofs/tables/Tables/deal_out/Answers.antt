@@ -1,5 +1,5 @@
 use Rattle.std.proofs.Common.{◌≡◌, ◌≤◌, ◌<◌, ◌++◌, List, true, cond, get_or, length, map, take, drop, refl, sym, ap, ◌∙◌, subst, arith}
-use Rattle.book_tables.specs.UserSets.{users_in}
+use Rattle.user_set.specs.UserSets.{users_in}
 use Rattle.book_tables.specs.declared.tables.Waiting.{Waiting}
 use Rattle.book_tables.specs.Batched.{AreReadied, period_in}
 use Rattle.book_tables.specs.Notices.{of_deal, goes_ready, moved, dealt_to, IsInOrder, IsStretchOf}

@@ -1,6 +1,6 @@
 use Rattle.std.proofs.Common.{◌≡◌, ◌≤◌, ◌+◌, ◌++◌, map, take, drop}
 use Rattle.std.specs.Prelude.{if◌then◌else◌}
-use Rattle.book_tables.specs.UserSets.{users_in}
+use Rattle.user_set.specs.UserSets.{users_in}
 use Rattle.book_tables.specs.Notices.{of_deal, dealt_to}
 use Rattle.book_tables.specs.Batched.{WithNotices, AreReadied, period_in}
 use Rattle.book_tables.proofs.tables.Tables.deal_out.Given as goal

@@ -1,7 +1,7 @@
 use Rattle.std.proofs.Common.{List, ap, ◌∙◌}
 use Rattle.std.specs.List.{list_any}
 use Rattle.chat_model.specs.declared.ids.GroupId.{GroupId}
-use Rattle.book_tables.specs.declared.user_set.UserSet.{UserSet}
+use Rattle.user_set.specs.declared.set.UserSet.{UserSet}
 use Rattle.book_tables.specs.UserSets.{has_in}
 use Rattle.book_tables.proofs.Standing.{some-member}
 use Rattle.book_tables.proofs.tables.Tables.is_in_some.Goals as goal

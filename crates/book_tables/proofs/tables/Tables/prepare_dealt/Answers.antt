@@ -6,7 +6,7 @@ use Rattle.chat_model.specs.Outcomes.{is_idle, is_live, gives_idle, gives_live}
 use Rattle.notice_ledger.specs.Past.Values.{is_one_of}
 use Rattle.book_tables.specs.declared.tables.Waiting.{Waiting}
 use Rattle.book_tables.specs.Notices.{is_undecided_of, of_deal, dealt_to, IsInOrder}
-use Rattle.book_tables.specs.UserSets.{users_in}
+use Rattle.user_set.specs.UserSets.{users_in}
 use Rattle.book_tables.specs.Prepared.{puts_where}
 use Rattle.book_tables.specs.Pushes.{push_of, is_readied_push}
 use Rattle.book_tables.proofs.Following.{changes-dealt}

@@ -1,5 +1,5 @@
 use Rattle.std.proofs.Common.{List, ap, ◌∙◌}
-use Rattle.book_tables.specs.declared.user_set.UserSet.{UserSet}
+use Rattle.user_set.specs.declared.set.UserSet.{UserSet}
 use Rattle.book_tables.specs.UserSets.{size_in}
 use Rattle.book_tables.proofs.Standing.{subscribers-counted}
 use Rattle.book_tables.proofs.tables.Tables.subscriber_count.Goals as goal

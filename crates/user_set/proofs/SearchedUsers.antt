@@ -10,8 +10,8 @@ use Rattle.std.proofs.lemmas.Bool.Decides.{nat_tests}
 use Rattle.chat_model.specs.declared.ids.UserId.{UserId}
 use Rattle.chat_model.specs.Ascending.{put_once_by}
 use Rattle.chat_model.proofs.OnceEach.{ascending-below, ascending-rest}
-use Rattle.notice_ledger.specs.InOrder.{is_ascending}
-use Rattle.notice_ledger.specs.Past.Values.{is_one_of}
+use Rattle.user_set.specs.Users.{are_ascending}
+use Rattle.user_set.specs.Users.{has_user}
 
 abbrev number : UserId → ℕ
 number u = u.0
@@ -22,7 +22,7 @@ below_at n (u ∷ us) zero d all lt = all.0
 below_at n (u ∷ us) (suc i) d all lt = below_at n us i d all.1 (omega arith)
 
 -- of ascending users the later one has the higher number
-get_ascending : (us : List UserId) → is_ascending us ≡ true → (i j : ℕ) (d : UserId) → i ≤ j → j < length us → (get_or us i d).0 ≤ (get_or us j d).0
+get_ascending : (us : List UserId) → are_ascending us ≡ true → (i j : ℕ) (d : UserId) → i ≤ j → j < length us → (get_or us i d).0 ≤ (get_or us j d).0
 get_ascending [] h i j d le lt = absurd (omega arith)
 get_ascending (u ∷ us) h zero zero d le lt = omega arith
 get_ascending (u ∷ us) h zero (suc j) d le lt = omega (arith, below_at u.0 us j d (ascending-below number u us h) (omega arith))
@@ -33,7 +33,7 @@ ordered : (a b n : ℕ) → a ≤ b → ordering_index (nat_cmp a n) ≤ orderin
 ordered a b n le = grind (arith, nat_tests)
 
 -- what the search asks
-pub searchable : (us : List UserId) (n : ℕ) → is_ascending us ≡ true → (i j : ℕ) (d : UserId) → i ≤ j → j < length us → ordering_index (nat_cmp (get_or us i d).0 n) ≤ ordering_index (nat_cmp (get_or us j d).0 n)
+pub searchable : (us : List UserId) (n : ℕ) → are_ascending us ≡ true → (i j : ℕ) (d : UserId) → i ≤ j → j < length us → ordering_index (nat_cmp (get_or us i d).0 n) ≤ ordering_index (nat_cmp (get_or us j d).0 n)
 searchable us n h i j d le lt = ordered (get_or us i d).0 (get_or us j d).0 n (get_ascending us h i j d le lt)
 
 is_same : (a n : ℕ) → nat_cmp a n ≡ Equal → (a == n) ≡ true
@@ -50,14 +50,14 @@ or_either true b h = refl
 or_either false b h = h
 
 -- who is found is there
-pub found_there : (us : List UserId) (u : UserId) (i : ℕ) → i < length us → ((d : UserId) → nat_cmp (get_or us i d).0 u.0 ≡ Equal) → is_one_of us u ≡ true
+pub found_there : (us : List UserId) (u : UserId) (i : ℕ) → i < length us → ((d : UserId) → nat_cmp (get_or us i d).0 u.0 ≡ Equal) → has_user us u ≡ true
 found_there [] u i lt e = absurd (omega arith)
-found_there (v ∷ us) u zero lt e = ap (λ b. b || is_one_of us u) (is_same v.0 u.0 (e v))
-found_there (v ∷ us) u (suc i) lt e = or_either (v.0 == u.0) (is_one_of us u) (found_there us u i (omega arith) e)
+found_there (v ∷ us) u zero lt e = ap (λ b. b || has_user us u) (is_same v.0 u.0 (e v))
+found_there (v ∷ us) u (suc i) lt e = or_either (v.0 == u.0) (has_user us u) (found_there us u i (omega arith) e)
 
-not_there : (us : List UserId) (u : UserId) → ((k : ℕ) (d : UserId) → k < length us → ((get_or us k d).0 == u.0) ≡ false) → is_one_of us u ≡ false
+not_there : (us : List UserId) (u : UserId) → ((k : ℕ) (d : UserId) → k < length us → ((get_or us k d).0 == u.0) ≡ false) → has_user us u ≡ false
 not_there [] u h = refl
-not_there (v ∷ us) u h = ap (λ b. b || is_one_of us u) (h 0 v (omega arith)) ∙ not_there us u (λ k d lt. h (suc k) d (omega arith))
+not_there (v ∷ us) u h = ap (λ b. b || has_user us u) (h 0 v (omega arith)) ∙ not_there us u (λ k d lt. h (suc k) d (omega arith))
 
 -- the users below a place have lower numbers, and those from it on higher ones
 pub record IsPlace (us : List UserId) (u : UserId) (i : ℕ) : Type 0 where
@@ -73,7 +73,7 @@ place_from us u i within low high = record {
 }
 
 -- who has a place is not there
-pub place_not_there : (us : List UserId) (u : UserId) (i : ℕ) → IsPlace us u i → is_one_of us u ≡ false
+pub place_not_there : (us : List UserId) (u : UserId) (i : ℕ) → IsPlace us u i → has_user us u ≡ false
 place_not_there us u i place =
     not_there us u (λ k d lt. ⊎_elim
     (λ below. ne_eqb (get_or us k d).0 u.0 (λ e. omega (arith, place.low k d below, e)))
@@ -93,7 +93,7 @@ insert_at (v ∷ us) u (suc i) place =
     ∙ ap (λ b. cond b (v ∷ us) (v ∷ put_once_by number u us)) (ne_eqb u.0 v.0 (λ e. omega (arith, low, e))))
 
 -- who is there already changes nothing
-pub put_found : (us : List UserId) (u : UserId) (i : ℕ) → is_ascending us ≡ true → i < length us → ((d : UserId) → nat_cmp (get_or us i d).0 u.0 ≡ Equal) → us ≡ put_once_by (λ (v : UserId). v.0) u us
+pub put_found : (us : List UserId) (u : UserId) (i : ℕ) → are_ascending us ≡ true → i < length us → ((d : UserId) → nat_cmp (get_or us i d).0 u.0 ≡ Equal) → us ≡ put_once_by (λ (v : UserId). v.0) u us
 put_found [] u i h lt e = absurd (omega arith)
 put_found (v ∷ us) u zero h lt e =
     let same : u.0 ≡ v.0 = sym (equal v.0 u.0 (e v)) in
@@ -112,7 +112,7 @@ put_found (v ∷ us) u (suc i) h lt e =
     lower a b n lt e = grind (arith, nat_tests)
 
 -- the search finds who is there
-pub search-has : (us : List UserId) (u : UserId) (r : Result ℕ ℕ) → is_ascending us ≡ true → IsSearchInRange r (length us) → IsBinarySearchResult (λ y. nat_cmp y.0 u.0) us r → is_ok r ≡ is_one_of us u
+pub search-has : (us : List UserId) (u : UserId) (r : Result ℕ ℕ) → are_ascending us ≡ true → IsSearchInRange r (length us) → IsBinarySearchResult (λ y. nat_cmp y.0 u.0) us r → is_ok r ≡ has_user us u
 search-has us u (Ok i) up bound found = sym (found_there us u i bound found)
 search-has us u (Err i) up bound found =
     let parts = found (searchable us u.0 up) in sym (place_not_there us u i (place_from us u i bound parts.0 parts.1))

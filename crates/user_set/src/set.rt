@@ -1,7 +1,7 @@
 //! Users who stand together: the subscribers of a channel, or the members of a group.
 ghost use Rattle.std.specs.Prelude.{◌≡◌, ◌<◌, true, false, [], length, IfOk, OnOk};
 ghost use Rattle.std.specs.Vec.{vec_len, vec_capacity};
-ghost use Rattle.notice_ledger.specs.InOrder.{is_ascending};
+ghost use Rattle.user_set.specs.Users.{are_ascending};
 
 use chat_model::{List, OutOfMemory, UserId};
 use std::alloc::Global;
@@ -10,12 +10,11 @@ use std::alloc::Global;
 #[derive(Debug, Drop)]
 pub struct UserSet {
     pub users: Vec<UserId>,
-    ghost ascending: { is_ascending users.items ≡ true },
+    ghost ascending: { are_ascending users.items ≡ true },
 }
 
 impl UserSet {
-    ghost use Rattle.notice_ledger.specs.Past.Values.{is_one_of};
-    ghost use Rattle.book_tables.specs.UserSets.{users_after};
+    ghost use Rattle.user_set.specs.Users.{has_user, users_after};
 
     /// The set of nobody.
     pub fn new(alloc: Global) -> UserSet
@@ -28,7 +27,7 @@ impl UserSet {
 
     /// The set of these users.
     pub fn from_ascending(users: List<UserId>) -> UserSet
-        requires { is_ascending users ≡ true }
+        requires { are_ascending users ≡ true }
         ensures { result.users.items ≡ users }
     {
         UserSet {
@@ -48,7 +47,7 @@ impl UserSet {
 
     /// Whether the user is in the set.
     pub fn has(&self, user: UserId) -> bool
-        ensures { result ≡ is_one_of self.now.users.items user }
+        ensures { result ≡ has_user self.now.users.items user }
     {
         self.users.binary_search(&user).is_ok()
     }

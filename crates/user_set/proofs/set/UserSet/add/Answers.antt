@@ -1,17 +1,17 @@
 use Rattle.std.proofs.Common.{◌≡◌, true, not, sym, ap, ◌∙◌, subst}
 use Rattle.std.specs.Prelude.{insert, if◌then◌else◌}
-use Rattle.notice_ledger.specs.InOrder.{is_ascending}
-use Rattle.book_tables.specs.UserSets.{users_after}
-use Rattle.book_tables.proofs.SetSizes.{ascending-after}
-use Rattle.book_tables.proofs.SetPlaces.{IsPlace, searchable, place_from, insert_at, put_found}
-use Rattle.book_tables.proofs.user_set.UserSet.add.Goals.{Else-is_err}
-use Rattle.book_tables.proofs.user_set.UserSet.add.Goals as goal
+use Rattle.user_set.specs.Users.{are_ascending}
+use Rattle.user_set.specs.Users.{users_after}
+use Rattle.user_set.proofs.ChangedUsers.{ascending-after}
+use Rattle.user_set.proofs.SearchedUsers.{IsPlace, searchable, place_from, insert_at, put_found}
+use Rattle.user_set.proofs.set.UserSet.add.Goals.{Else-is_err}
+use Rattle.user_set.proofs.set.UserSet.add.Goals as goal
 
 -- the user was put at its place
 placed : (c : Else-is_err) → c.insert.new.self.items ≡ users_after c.args.user true c.args.self.now.users.items
 placed c =
     let us = c.args.self.now.users.items in let xs = c.deref.result.now in
-    let up : is_ascending xs ≡ true = ap is_ascending c.deref.ensures.value ∙ c.args.self.now.ascending in
+    let up : are_ascending xs ≡ true = ap are_ascending c.deref.ensures.value ∙ c.args.self.now.ascending in
     let parts = c.in-Err.ensures.position (searchable xs c.args.user.0 up) in
     let place : IsPlace us c.args.user c.in-Err.place = subst (λ ys. IsPlace ys c.args.user c.in-Err.place) c.deref.ensures.value (place_from xs c.args.user c.in-Err.place c.in-Err.ensures.bound parts.0 parts.1) in
     c.insert.ensures.items
@@ -19,12 +19,12 @@ placed c =
     ∙ insert_at us c.args.user c.in-Err.place place)
 
 pub invariant_of-self : goal.invariant_of-self
-invariant_of-self c = record { ascending = ap is_ascending (placed c) ∙ ascending-after c.args.self.now.users.items c.args.user true c.args.self.now.ascending }
+invariant_of-self c = record { ascending = ap are_ascending (placed c) ∙ ascending-after c.args.self.now.users.items c.args.user true c.args.self.now.ascending }
 
 pub returns-else-is_err : goal.returns-else-is_err
 returns-else-is_err c = placed (goal.at.returns-else-is_err c).Else-is_err
 
 pub returns-in_default : goal.returns-in_default
 returns-in_default c =
-    let xs = c.deref.result.now in let up : is_ascending xs ≡ true = ap is_ascending c.deref.ensures.value ∙ c.args.self.now.ascending in
+    let xs = c.deref.result.now in let up : are_ascending xs ≡ true = ap are_ascending c.deref.ensures.value ∙ c.args.self.now.ascending in
     sym c.deref.ensures.value ∙ (put_found xs c.args.user c.in_default.field-0 up c.in_default.ensures.bound c.in_default.ensures.ok ∙ ap (users_after c.args.user true) c.deref.ensures.value)

@@ -1,0 +1,2 @@
+pub mod SearchedUsers
+pub mod ChangedUsers
