@@ -1,2 +1,6 @@
 pub mod Standings
 pub mod Happenings
+pub mod KeptDeals
+pub mod Kept
+pub mod Numbers
+pub mod Books

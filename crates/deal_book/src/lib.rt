@@ -4,8 +4,16 @@
 //! these follow which notices it moves, and the book afterwards. The book knows no list of events.
 #![tactic(auto)]
 
+mod book;
 mod happening;
+mod kept;
+mod laws;
 mod standing;
+#[cfg(test)]
+mod tests;
 
+pub use book::{DealBook, Found, NewDeal};
 pub use happening::Happening;
+pub use kept::Move;
+pub use laws::moves_are_what_differs;
 pub use standing::{KeptNotice, Standing};
