@@ -39,7 +39,8 @@ pub all_same : (h : Happening) (ns : List KeptNotice) → AllByRecursion (stays 
 all_same h [] all = tt
 all_same h (n ∷ ns) all = (ap (λ (s : Standing). let m : KeptNotice = record n { standing = s } in m) all.0, all_same h ns all.1)
 
-differs-not : (s : Standing) → differs s s ≡ false
+-- no standing differs from itself
+pub differs-not : (s : Standing) → differs s s ≡ false
 differs-not s = ap not (eq-eqb (place s) (place s) refl)
 
 unmoved : (h : Happening) (d : Deal) (n : KeptNotice) → stays h n → move_of h d n ≡ None

@@ -1,5 +1,5 @@
 -- The book of deals: what a happening makes of it, which notices it moves, and what stands in it.
-use Rattle.std.specs.Prelude.{◌≡◌, ℕ, zero, suc, ◌+◌, ◌-◌, Bool, true, false, ◌==◌, List, [], ◌∷◌, ◌++◌, length, map, find, Option, Some, None, option_map, if◌then◌else◌}
+use Rattle.std.specs.Prelude.{◌≡◌, ℕ, zero, suc, ◌+◌, ◌-◌, Bool, true, false, ◌==◌, List, [], ◌∷◌, ◌++◌, length, map, find, Option, Some, None, if◌then◌else◌}
 use Rattle.std.specs.List.{cons_option, filter_map, flat_map}
 use Rattle.std.specs.Option.{option_and_then}
 use Rattle.chat_model.specs.declared.deal.Deal.{Deal}
@@ -9,9 +9,10 @@ use Rattle.chat_model.specs.declared.ids.UserId.{UserId}
 use Rattle.chat_model.specs.declared.trigger.Way.{Way}
 use Rattle.deal_book.specs.Standings.{differs}
 use Rattle.deal_book.specs.Happenings.{concerns}
-use Rattle.deal_book.specs.Kept.{are_by_user, changed, is_to, move_of}
+use Rattle.deal_book.specs.Kept.{are_by_user, changed, move_of}
+use Rattle.deal_book.specs.Finds.{found_in}
 use Rattle.deal_book.specs.KeptDeals.{Book, Kept}
-use Rattle.deal_book.specs.declared.book.Found.{Found}
+use Rattle.deal_book.specs.declared.kept.Found.{Found}
 use Rattle.deal_book.specs.declared.book.NewDeal.{NewDeal}
 use Rattle.deal_book.specs.declared.happening.Happening.{Happening}
 use Rattle.deal_book.specs.declared.kept.Move.{Move}
@@ -80,8 +81,7 @@ added b (Some new) = record { deals = b.deals ++ record { deal = new.deal; notic
 -- the notice that the deal of a message owes a user by a way
 abbrev pub found : Book → UserId → MessageId → Way → Option Found
 found b user m way =
-    option_and_then (λ e. option_map (λ n. record { deal = e.deal.number; notice = n }) (find (is_to user way) e.notices))
-    (find (λ e. e.deal.message.0 == m.0) b.deals)
+    option_and_then (found_in user way) (find (λ e. e.deal.message.0 == m.0) b.deals)
 
 -- ---- what differs
 

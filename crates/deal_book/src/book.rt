@@ -1,5 +1,5 @@
 //! The book of deals.
-ghost use Rattle.std.specs.Prelude.{◌≡◌, ◌↔◌, ◌≤◌, ◌++◌, [], true, length, max, map, slice_get, option_map, IsNone, IfOk, OnOk, OnErr};
+ghost use Rattle.std.specs.Prelude.{◌≡◌, ◌↔◌, ◌≤◌, ◌++◌, ◌==◌, [], true, find, length, max, map, slice_get, option_map, IsNone, IfOk, OnOk, OnErr};
 ghost use Rattle.std.specs.List.{flat_map};
 ghost use Rattle.std.specs.Option.{option_copied, option_map_or};
 ghost use Rattle.chat_model.specs.Ascending.{ascending_once_by, is_ascending_by};
@@ -8,7 +8,7 @@ ghost use Rattle.deal_book.specs.Numbers.{AreNumbered};
 ghost use Rattle.deal_book.specs.Books.{changed_at, changed_deal, changed_if, moves_if, moves_of, room_for};
 
 use crate::happening::Happening;
-use crate::kept::{DealKept, Move};
+use crate::kept::{DealKept, Found, Move};
 use crate::standing::KeptNotice;
 use chat_model::{Deal, DealNo, List, MessageId, OutOfMemory, UserId, Way};
 use std::alloc::Global;
@@ -19,13 +19,6 @@ use std::marker::Model;
 pub struct NewDeal {
     pub deal: Deal,
     pub notices: List<KeptNotice>,
-}
-
-/// A notice, and the deal that owes it.
-#[derive(Clone, Copy, Debug, PartialEq, Eq)]
-pub struct Found {
-    pub deal: DealNo,
-    pub notice: KeptNotice,
 }
 
 /// Each deal with the notices that it owes, kept for good. Only `reserve` takes memory for the book.
@@ -125,14 +118,62 @@ fn put_named_moves(
     Ok(())
 }
 
-/// The numbers ascending, once each.
-fn ascending_deals(alloc: Global, named: &[DealNo]) -> Result<Vec<DealNo>, OutOfMemory>
-    ensures { IfOk result (λ numbers. numbers.items ≡ ascending_once_by (λ k. k.0) named.now) }
+/// The same numbers again.
+fn copied(alloc: Global, named: &[DealNo]) -> Result<List<DealNo>, OutOfMemory>
+    ensures { IfOk result (λ copy. copy ≡ named.now) }
 {
-    let mut numbers = Vec::from_slice(alloc, named)?;
+    Ok(List::from(Vec::from_slice(alloc, named)?))
+}
+
+/// The numbers ascending, once each. It takes no memory.
+fn ascending_deals(numbers: List<DealNo>) -> List<DealNo>
+    ensures { result ≡ ascending_once_by (λ k. k.0) numbers }
+{
+    let mut numbers = numbers.into_vec();
     numbers.sort_unstable();
     numbers.dedup();
-    Ok(numbers)
+    List::from(numbers)
+}
+
+/// How a happening moves the notices of the deals of these numbers, in the order of the deals.
+fn named_moves(
+    alloc: Global,
+    happening: &Happening,
+    deals: &[DealKept],
+    named: &[DealNo],
+) -> Result<Vec<Move>, OutOfMemory>
+    requires { AreNumbered 0 deals.now }
+    ensures { IfOk result (λ moves. moves.items ≡ moves_if (has_deal named.now) happening.now deals.now) }
+{
+    let copy = copied(alloc, named)?;
+    let numbers = ascending_deals(copy);
+    let mut moves = List::new(alloc);
+    put_named_moves(&mut moves, happening, deals, numbers.as_slice())?;
+    Ok(moves.into_vec())
+}
+
+/// How a happening moves the notices of all deals, in the order of the deals.
+fn all_moves(
+    alloc: Global,
+    happening: &Happening,
+    deals: &[DealKept],
+) -> Result<Vec<Move>, OutOfMemory>
+    ensures { IfOk result (λ moves. moves.items ≡ flat_map (moves_of happening.now) deals.now) }
+{
+    let mut moves = List::new(alloc);
+    put_all_moves(&mut moves, happening, deals)?;
+    Ok(moves.into_vec())
+}
+
+/// The deal of a message, where there is one.
+fn deal_of(deals: &[DealKept], message: MessageId) -> Option<&DealKept>
+    requires { AreNumbered 0 deals.now }
+    ensures { option_copied result ≡ find (λ e. e.deal.message.0 == message.0) deals.now }
+{
+    if message.0 == 0 {
+        return None;
+    }
+    deals.get((message.0 - 1) as usize)
 }
 
 impl DealBook {
@@ -189,15 +230,10 @@ impl DealBook {
         ensures { IfOk result (λ moves. moves.items ≡ moves_by self.now happening.now) }
     {
         let alloc = *self.deals.allocator();
-        let mut moves = List::new(alloc);
         match happening.named() {
-            Some(named) => {
-                let numbers = ascending_deals(alloc, named)?;
-                put_named_moves(&mut moves, happening, &self.deals, &numbers)?;
-            }
-            None => put_all_moves(&mut moves, happening, &self.deals)?,
+            Some(named) => named_moves(alloc, happening, &self.deals, named),
+            None => all_moves(alloc, happening, &self.deals),
         }
-        Ok(moves.into_vec())
     }
 
     /// Lends the deal of a number. `None` exactly where the book has no deal of that number.
@@ -214,13 +250,10 @@ impl DealBook {
     pub fn find(&self, user: UserId, message: MessageId, way: Way) -> Option<Found>
         ensures { result ≡ found self.now user message way }
     {
-        let place = message.0.checked_sub(1)?;
-        let kept = self.deals.get(place as usize)?;
-        let notice = kept.find(user, way)?;
-        Some(Found {
-            deal: kept.deal().number,
-            notice,
-        })
+        match deal_of(&self.deals, message) {
+            Some(kept) => kept.find(user, way),
+            None => None,
+        }
     }
 }
 

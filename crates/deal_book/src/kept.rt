@@ -17,6 +17,13 @@ pub struct Move {
     pub after: Standing,
 }
 
+/// A notice, and the deal that owes it.
+#[derive(Clone, Copy, Debug, PartialEq, Eq)]
+pub struct Found {
+    pub deal: DealNo,
+    pub notice: KeptNotice,
+}
+
 /// Where the notices of one user stand among those of a deal: from one place up to another.
 #[derive(Clone, Copy, Debug)]
 struct Stretch {
@@ -148,7 +155,7 @@ impl Model for DealKept {
 }
 
 impl DealKept {
-    ghost use Rattle.deal_book.specs.KeptDeals.{Kept};
+    ghost use Rattle.deal_book.specs.Finds.{found_in};
 
     /// The deal with these notices, which stand by user.
     pub fn new(deal: Deal, notices: List<KeptNotice>) -> DealKept
@@ -186,10 +193,16 @@ impl DealKept {
         put_moves(moves, happening, &self.deal, &self.notices)
     }
 
-    /// The notice to a user by a way. `None` exactly where the deal owes none.
-    pub fn find(&self, user: UserId, way: Way) -> Option<KeptNotice>
-        ensures { result ≡ find (is_to user way) self.now.notices }
+    /// The notice to a user by a way, with the deal's number. `None` exactly where the deal owes none.
+    pub fn find(&self, user: UserId, way: Way) -> Option<Found>
+        ensures { result ≡ found_in user way self.now }
     {
-        find_notice(&self.notices, user, way)
+        match find_notice(&self.notices, user, way) {
+            Some(notice) => Some(Found {
+                deal: self.deal.number,
+                notice,
+            }),
+            None => None,
+        }
     }
 }

@@ -12,8 +12,8 @@ mod standing;
 #[cfg(test)]
 mod tests;
 
-pub use book::{DealBook, Found, NewDeal};
+pub use book::{DealBook, NewDeal};
 pub use happening::Happening;
-pub use kept::Move;
+pub use kept::{Found, Move};
 pub use laws::moves_are_what_differs;
 pub use standing::{KeptNotice, Standing};
