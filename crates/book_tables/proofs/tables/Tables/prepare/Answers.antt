@@ -6,7 +6,7 @@ use Rattle.chat_model.specs.declared.memory.OutOfMemory.{OutOfMemory}
 use Rattle.chat_model.specs.Rows.{changed_all}
 use Rattle.chat_model.specs.declared.event.Stamped.{Stamped}
 use Rattle.chat_model.specs.declared.event.Event.{Event}
-use Rattle.chat_model.specs.declared.event.Event.TheVariants.{Restart, Asked, Absorbed, MailTurn, PushTurn, Spooled}
+use Rattle.chat_model.specs.declared.event.Event.TheVariants.{Restart, Asked, Absorbed, MailTurn, PushTurn}
 use Rattle.notice_ledger.specs.Lawful.{lawful, is_lawful_after}
 use Rattle.notice_ledger.specs.Past.Journal.{last_stamp}
 use Rattle.notice_ledger.specs.Past.Lawful.{may_stand}
@@ -107,7 +107,7 @@ pub prepare_asked-requires-granted : goal.prepare_asked-requires-granted
 prepare_asked-requires-granted c = granted c.args.self.now c.args.event.now c.in-Asked.request c.in-Asked.is c.requires
 
 pub unreachable-requires : goal.unreachable-requires
-unreachable-requires c = absurd (false≢true (stands c.args.self.now c.args.event.now (Spooled c.in-Spooled.«0») c.in-Spooled.is c.requires))
+unreachable-requires c = absurd (false≢true (stands c.args.self.now c.args.event.now _ c.in-Spooled.is c.requires))
 
 pub prepare_turn-requires : goal.prepare_turn-requires
 prepare_turn-requires c = oldest c.args.self.now c.args.event.now c.in-PushTurn.item c.in-PushTurn.is c.requires
