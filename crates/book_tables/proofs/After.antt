@@ -7,7 +7,7 @@ use Rattle.std.proofs.lemmas.List.{map-append, append-nil}
 use Rattle.std.proofs.lemmas.Bool.{and_parts}
 use Rattle.chat_model.specs.declared.event.Stamped.{Stamped}
 use Rattle.chat_model.specs.declared.event.Event.{Event}
-use Rattle.chat_model.specs.declared.event.Event.TheVariants.{Restart, Asked, Absorbed, MailTurn, PushTurn}
+use Rattle.chat_model.specs.declared.event.Event.TheVariants.{Restart, Asked, Absorbed, MailTurn, PushTurn, Spooled}
 use Rattle.chat_model.specs.declared.request.Request.TheVariants.{AddUser, AddGroup, Member, AddChannel, Subscribe, Set, SetChannel, SetPolicy, Mute, Send, Direct}
 use Rattle.chat_model.specs.declared.request.Request.{Request}
 use Rattle.chat_model.specs.declared.request.Refusal.{Refusal}
@@ -75,7 +75,7 @@ use Rattle.std.specs.Option.{option_map_or, option_or}
 use Rattle.std.specs.Prelude.{is_some, slice_get, sum_by}
 use Rattle.std.proofs.Common.{suc}
 use Rattle.chat_model.specs.Outcomes.{is_dealt}
-use Rattle.chat_model.specs.declared.request.Request.TheVariants.{Delete, Read}
+use Rattle.chat_model.specs.declared.request.Request.TheVariants.{Edit, Delete, Read}
 use Rattle.chat_model.specs.declared.request.Refusal.TheVariants.{NoMessage, NotSender}
 use Rattle.chat_model.specs.declared.row.Cause.{Cause}
 use Rattle.chat_model.specs.declared.row.Cause.TheVariants as causes
@@ -727,6 +727,7 @@ module _ (j : List Stamped) (waits : PushesWait j) where
       refl refl refl refl (λ g u. refl) (λ u c. refl) (calm_asked at (Mute user other on) (λ u m. refl) (λ m. refl)) refl refl refl may)
   agrees at (Asked (Send sender channel topic text)) e may fits = agrees_send at sender (destination.Channel channel topic) text e fits may
   agrees at (Asked (Direct sender to text)) e may fits = agrees_send at sender (destination.Direct to) text e fits may
+  agrees at (Asked (Edit user message text)) e may fits = absurd fits
   agrees at (Asked (Delete user message)) e may fits =
       let users = first_kept (is_user j user) NoUser (rule (not (is_message j message)) NoMessage ∷ rule (not (option_map_or (is_sender user) (message_sent j message) false)) NotSender ∷ []) (asked_not_refused at (Delete user message) may) in
       agrees_deletion at user message e may (first_kept (is_message j message) NoMessage (rule (not (option_map_or (is_sender user) (message_sent j message) false)) NotSender ∷ []) users.1).0 fits
@@ -737,6 +738,7 @@ module _ (j : List Stamped) (waits : PushesWait j) where
   agrees at (MailTurn user) e may fits = agrees_mails at user e fits may
   agrees at (PushTurn (item.Notify user message)) e may fits = agrees_push at user message e may fits
   agrees at (PushTurn (item.Remove user messages)) e may fits = agrees_removed at user messages e may fits
+  agrees at (Spooled number) e may fits = absurd fits
 
 -- the tables hold what the events leave with a lawful one
 pub holds_after : (old new : Tables) (past : List Stamped) → PushesWait past → Holds old past → (s : Stamped) → is_lawful_after past s ≡ true → (e : Effect) → IsEffectOf past s.at s.event e → IsApplied old new s.at e → new.last ≡ s.at → Holds new (past ++ s ∷ [])

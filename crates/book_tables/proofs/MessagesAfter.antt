@@ -6,8 +6,8 @@ use Rattle.std.specs.Ordering.{is_eq}
 use Rattle.std.proofs.lemmas.Bool.{eq-eqb}
 use Rattle.chat_model.specs.declared.event.Stamped.{Stamped}
 use Rattle.chat_model.specs.declared.event.Event.{Event}
-use Rattle.chat_model.specs.declared.event.Event.TheVariants.{Restart, Asked, Absorbed, MailTurn, PushTurn}
-use Rattle.chat_model.specs.declared.request.Request.TheVariants.{AddUser, AddGroup, Member, AddChannel, Subscribe, Set, SetChannel, SetPolicy, Mute, Send, Direct, Delete, Read}
+use Rattle.chat_model.specs.declared.event.Event.TheVariants.{Restart, Asked, Absorbed, MailTurn, PushTurn, Spooled}
+use Rattle.chat_model.specs.declared.request.Request.TheVariants.{AddUser, AddGroup, Member, AddChannel, Subscribe, Set, SetChannel, SetPolicy, Mute, Send, Direct, Edit, Delete, Read}
 use Rattle.chat_model.specs.declared.ids.MessageId.{MessageId}
 use Rattle.chat_model.specs.declared.ids.UserId.{UserId}
 use Rattle.chat_model.specs.declared.row.Row.{Row}
@@ -128,7 +128,9 @@ messages-after k j s kept = by s.at s.event
     by at (Asked (Mute user other on)) = sends k j (record { at = at; event = Asked (Mute user other on) }) kept refl refl
     by at (Asked (Send sender channel topic text)) = sends k j (record { at = at; event = Asked (Send sender channel topic text) }) kept refl refl
     by at (Asked (Direct sender to text)) = sends k j (record { at = at; event = Asked (Direct sender to text) }) kept refl refl
+    by at (Asked (Edit user message text)) = sends k j (record { at = at; event = Asked (Edit user message text) }) kept refl refl
     by at (Asked (Read user messages)) = sends k j (record { at = at; event = Asked (Read user messages) }) kept refl refl
     by at (Absorbed outcome) = sends k j (record { at = at; event = Absorbed outcome }) kept refl refl
     by at (MailTurn user) = sends k j (record { at = at; event = MailTurn user }) kept refl refl
     by at (PushTurn item) = sends k j (record { at = at; event = PushTurn item }) kept refl refl
+    by at (Spooled number) = sends k j (record { at = at; event = Spooled number }) kept refl refl

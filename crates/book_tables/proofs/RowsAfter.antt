@@ -6,8 +6,8 @@ use Rattle.std.specs.List.{AllByRecursion, filter_map, cons_option}
 use Rattle.std.proofs.lemmas.List.{map-append}
 use Rattle.chat_model.specs.declared.event.Stamped.{Stamped}
 use Rattle.chat_model.specs.declared.event.Event.{Event}
-use Rattle.chat_model.specs.declared.event.Event.TheVariants.{Restart, Asked, Absorbed, MailTurn, PushTurn}
-use Rattle.chat_model.specs.declared.request.Request.TheVariants.{AddUser, AddGroup, Member, AddChannel, Subscribe, Set, SetChannel, SetPolicy, Mute, Send, Direct, Delete, Read}
+use Rattle.chat_model.specs.declared.event.Event.TheVariants.{Restart, Asked, Absorbed, MailTurn, PushTurn, Spooled}
+use Rattle.chat_model.specs.declared.request.Request.TheVariants.{AddUser, AddGroup, Member, AddChannel, Subscribe, Set, SetChannel, SetPolicy, Mute, Send, Direct, Edit, Delete, Read}
 use Rattle.chat_model.specs.declared.entry.Entry.{Entry}
 use Rattle.chat_model.specs.declared.ids.MessageId.{MessageId}
 use Rattle.chat_model.specs.declared.ids.UserId.{UserId}
@@ -159,11 +159,13 @@ new_users_are j (Asked (SetPolicy user channel topic policy)) = tt
 new_users_are j (Asked (Mute user other on)) = tt
 new_users_are j (Asked (Send sender channel topic text)) = tt
 new_users_are j (Asked (Direct sender to text)) = tt
+new_users_are j (Asked (Edit user message text)) = tt
 new_users_are j (Asked (Delete user message)) = tt
 new_users_are j (Asked (Read user messages)) = tt
 new_users_are j (Absorbed outcome) = tt
 new_users_are j (MailTurn user) = tt
 new_users_are j (PushTurn item) = tt
+new_users_are j (Spooled number) = tt
 
 sent_are : (j : List Stamped) (o : Option SentMessage) → AreOf 1 (map Put (sent_rows j o))
 sent_are j o = put_some_are 1 (λ (m : SentMessage). row.Message (record { 0 = length (messages j) + 1 }) m.sender m.text false) (λ m. refl) o
@@ -182,10 +184,12 @@ new_messages_are j (Asked (SetPolicy user channel topic policy)) = tt
 new_messages_are j (Asked (Mute user other on)) = tt
 new_messages_are j (Asked (Send sender channel topic text)) = sent_are j (sent_by j (Asked (Send sender channel topic text)))
 new_messages_are j (Asked (Direct sender to text)) = sent_are j (sent_by j (Asked (Direct sender to text)))
+new_messages_are j (Asked (Edit user message text)) = tt
 new_messages_are j (Asked (Read user messages)) = tt
 new_messages_are j (Absorbed outcome) = tt
 new_messages_are j (MailTurn user) = tt
 new_messages_are j (PushTurn item) = tt
+new_messages_are j (Spooled number) = tt
 
 one_more : (n : ℕ) → 1 + n ≡ n + 1
 one_more n = omega arith

@@ -5,8 +5,8 @@ use Rattle.std.specs.Prelude.{Option, Some, None, IfSome, IsPermutation, nat_le,
 use Rattle.std.proofs.lemmas.Bool.{and_parts, eq-eqb}
 use Rattle.chat_model.specs.declared.event.Stamped.{Stamped}
 use Rattle.chat_model.specs.declared.event.Event.{Event}
-use Rattle.chat_model.specs.declared.event.Event.TheVariants.{Restart, Asked, Absorbed, MailTurn, PushTurn}
-use Rattle.chat_model.specs.declared.request.Request.TheVariants.{AddUser, AddGroup, Member, AddChannel, Subscribe, Set, SetChannel, SetPolicy, Mute, Send, Direct, Delete, Read}
+use Rattle.chat_model.specs.declared.event.Event.TheVariants.{Restart, Asked, Absorbed, MailTurn, PushTurn, Spooled}
+use Rattle.chat_model.specs.declared.request.Request.TheVariants.{AddUser, AddGroup, Member, AddChannel, Subscribe, Set, SetChannel, SetPolicy, Mute, Send, Direct, Edit, Delete, Read}
 use Rattle.chat_model.specs.declared.deal.Outcome.TheVariants.{Dealt, Cleared, Missed}
 use Rattle.chat_model.specs.declared.deal.Deal.{Deal}
 use Rattle.chat_model.specs.declared.deal.UserVerdict.{UserVerdict}
@@ -163,6 +163,7 @@ module _ (t : Tables) (j : List Stamped) (stands : StandsFor t j) where
   fits_so at (Asked (Mute user other on)) e next fits = subst (Fits t) (sym fits) (bounded user)
   fits_so at (Asked (Send sender channel topic text)) e next fits = of_message e _ _ _ fits
   fits_so at (Asked (Direct sender to text)) e next fits = of_message e _ _ _ fits
+  fits_so at (Asked (Edit user message text)) e next fits = absurd fits
   fits_so at (Asked (Delete user message)) e next fits = of_barred _ _ _ e fits
   fits_so at (Asked (Read user messages)) e next fits = of_barred _ _ _ e fits
   fits_so at (Absorbed (Dealt k verdicts)) e next fits = of_dealt e k verdicts _ fits
@@ -171,6 +172,7 @@ module _ (t : Tables) (j : List Stamped) (stands : StandsFor t j) where
   fits_so at (MailTurn user) e next fits = of_mailed e user _ _ _ fits
   fits_so at (PushTurn (item.Notify user message)) e next fits = of_pushed at user message e _ _ next fits
   fits_so at (PushTurn (item.Remove user messages)) e next fits = of_removed at user messages e _ next fits
+  fits_so at (Spooled number) e next fits = absurd fits
 
 pub sound_prepared : (t : Tables) (p : Prepared) → WasPrepared t p → IsSound t
 sound_prepared t p was = sound t was.0 was.2

@@ -4,8 +4,9 @@ use Rattle.std.specs.List.{AllByRecursion}
 use Rattle.std.specs.Option.{option_map_or}
 use Rattle.chat_model.specs.declared.event.Stamped.{Stamped}
 use Rattle.chat_model.specs.declared.event.Event.{Event}
-use Rattle.chat_model.specs.declared.event.Event.TheVariants.{Restart, Asked, Absorbed, MailTurn, PushTurn}
-use Rattle.chat_model.specs.declared.request.Request.TheVariants.{AddUser, AddGroup, Member, AddChannel, Subscribe, Set, SetChannel, SetPolicy, Mute, Send, Direct, Delete, Read}
+use Rattle.chat_model.specs.declared.event.Event.TheVariants.{Restart, Asked, Absorbed, MailTurn, PushTurn, Spooled}
+use Rattle.chat_model.specs.declared.request.Request.{Request}
+use Rattle.chat_model.specs.declared.request.Request.TheVariants.{AddUser, AddGroup, Member, AddChannel, Subscribe, Set, SetChannel, SetPolicy, Mute, Send, Direct, Edit, Delete, Read}
 use Rattle.chat_model.specs.declared.ids.UserId.{UserId}
 use Rattle.chat_model.specs.declared.ids.MessageId.{MessageId}
 use Rattle.chat_model.specs.declared.mentions.GroupName.{GroupName}
@@ -40,6 +41,7 @@ use Rattle.notice_ledger.specs.Past.Pushes.{is_push_turn, items_by, removals_by}
 use Rattle.notice_ledger.specs.Past.Rows.{rows}
 use Rattle.notice_ledger.specs.Lawful.{lawful, IsLawful, is_lawful_after}
 use Rattle.notice_ledger.specs.Past.Lawful.{may_stand}
+use Rattle.notice_ledger.specs.Past.Refusals.{refusal}
 use Rattle.book_tables.specs.declared.pushes.PushKey.{PushKey}
 use Rattle.book_tables.specs.declared.tables.Message.{Message}
 use Rattle.book_tables.specs.declared.tables.Waiting.{Waiting}
@@ -169,7 +171,11 @@ deleted_row past m = option_map (λ sent. row.Message m sent.sender sent.text tr
 abbrev pub concerned : List Stamped → MessageId → List UserId
 concerned past m = option_map_or (λ d. d.users) (numbered m.0 (deals past)) []
 
--- the effect is that of an event at a stamp, behind these
+-- the request is granted behind some events
+abbrev pub IsGranted : Request → Type 0
+IsGranted request = (past : List Stamped) × (refusal past request ≡ None)
+
+-- the effect is that of an event at a stamp, behind these; an edit and a file have none, since neither is lawful yet
 abbrev pub IsEffectOf : List Stamped → ℕ → Event → Effect → Type 0
 IsEffectOf past at Restart e = IsStart e (items_made past (record { at = at; event = Restart }))
 IsEffectOf past at (Asked (AddUser name bot)) e = e ≡ effect.User (record { id = record { 0 = length (people past) + 1 }; name = name }) bot
@@ -183,6 +189,7 @@ IsEffectOf past at (Asked (SetPolicy user channel topic policy)) e = e ≡ effec
 IsEffectOf past at (Asked (Mute user other on)) e = e ≡ effect.Preference user (preference.Mute other on)
 IsEffectOf past at (Asked (Send sender channel topic text)) e = IsSendOf past at sender (destination.Channel channel topic) text e
 IsEffectOf past at (Asked (Direct sender to text)) e = IsSendOf past at sender (destination.Direct to) text e
+IsEffectOf past at (Asked (Edit user message text)) e = ⊥
 IsEffectOf past at (Asked (Delete user message)) e = IsBarred past (record { at = at; event = Asked (Delete user message) }) Deleted (Some message) e
 IsEffectOf past at (Asked (Read user messages)) e = IsBarred past (record { at = at; event = Asked (Read user messages) }) causes.Read None e
 IsEffectOf past at (Absorbed (Dealt deal verdicts)) e = IsDealt e deal verdicts (items_made past (record { at = at; event = Absorbed (Dealt deal verdicts) }))
@@ -191,6 +198,7 @@ IsEffectOf past at (Absorbed (Missed user deals)) e = IsMissed e user deals (ite
 IsEffectOf past at (MailTurn user) e = IsMailed e user (mail_entries past at user) (length (mail_items past user)) (switched_at past user)
 IsEffectOf past at (PushTurn (item.Notify user message)) e = IsPushed e user message (push_entries past at (item.Notify user message)) (switched_at_push past user message)
 IsEffectOf past at (PushTurn (item.Remove user messages)) e = IsRemoved e user messages (push_entries past at (item.Remove user messages))
+IsEffectOf past at (Spooled number) e = ⊥
 
 -- it was prepared for this event behind these, which all count: its changes make of the rows of these those with the event
 pub record Follows (past : List Stamped) (s : Stamped) (p : Prepared) : Type 0 where

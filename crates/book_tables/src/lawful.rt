@@ -42,6 +42,8 @@ impl Tables {
                 Event::Absorbed(_) => true,
                 Event::MailTurn(user) => self.is_turn(event.at, *user),
                 Event::PushTurn(item) => self.is_oldest(item),
+                // Nothing puts an entry into a file yet.
+                Event::Spooled(_) => false,
             }
     }
 }

@@ -376,7 +376,7 @@ impl Tables {
     ghost use Rattle.chat_model.specs.declared.deal.Outcome.TheVariants.{Dealt, Cleared, Missed};
     ghost use Rattle.chat_model.specs.declared.request.Request.TheVariants.{AddUser, AddGroup, Set, SetPolicy, Send, Direct};
     ghost use Rattle.book_tables.specs.Tables.{Holds, HoldSome, StandsFor, IsOldest, WaitsLongest, send_of, push_turn};
-    ghost use Rattle.book_tables.specs.Prepared.{FollowsAll, IsPreparedFor, MayFollow};
+    ghost use Rattle.book_tables.specs.Prepared.{FollowsAll, IsGranted, IsPreparedFor, MayFollow};
 
     fn prepare_user(&self, at: Moment, name: &Text, bot: bool) -> Result<Prepared, OutOfMemory>
         ensures { IfOk result (λ p. FollowsAll self.now (record { at = at; event = Asked (AddUser name.now bot) }) p) }
@@ -705,7 +705,8 @@ impl Tables {
     }
 
     fn prepare_asked(&self, at: Moment, request: &Request) -> Result<Prepared, OutOfMemory>
-        requires { is_in_order request.now ≡ true }
+        requires order { is_in_order request.now ≡ true }
+        requires granted { IsGranted request.now }
         ensures { IfOk result (λ p. FollowsAll self.now (record { at = at; event = Asked request.now }) p) }
     {
         match request {
@@ -773,6 +774,8 @@ impl Tables {
             Request::Direct { sender, to, text } => {
                 self.prepare_direct_message(at, *sender, to, text)
             }
+            // No edit is granted yet.
+            Request::Edit { .. } => unreachable!(),
             Request::Delete { user, message } => self.prepare_delete(at, *user, *message),
             Request::Read { user, messages } => {
                 self.prepare_read(at, *user, messages.as_slice())
@@ -792,6 +795,8 @@ impl Tables {
             Event::Absorbed(outcome) => self.prepare_absorbed(event.at, outcome),
             Event::MailTurn(user) => self.prepare_mails(event.at, *user),
             Event::PushTurn(item) => self.prepare_turn(event.at, item),
+            // Nothing puts an entry into a file yet.
+            Event::Spooled(_) => unreachable!(),
         }
     }
 }

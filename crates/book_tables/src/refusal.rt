@@ -1,9 +1,10 @@
 //! Why a request is refused: its rules stand in the order of the refusals' numbers.
-ghost use Rattle.std.specs.Prelude.{◌≡◌, ◌&&◌, Bool, List, map, is_some};
+ghost use Rattle.std.specs.Prelude.{◌≡◌, ◌&&◌, ℕ, Bool, List, map, is_some};
 ghost use Rattle.std.specs.Str.{str_eq_ignore_ascii_case};
 ghost use Rattle.notice_ledger.specs.Past.Values.{numbered};
 ghost use Rattle.std.specs.List.{list_all, list_any};
 ghost use Rattle.chat_model.specs.declared.event.Stamped.{Stamped};
+ghost use Rattle.chat_model.specs.declared.ids.MessageId.{MessageId};
 ghost use Rattle.chat_model.specs.declared.policy.Policy.{Policy};
 ghost use Rattle.chat_model.specs.declared.policy.SpecificChange.{SpecificChange};
 ghost use Rattle.notice_ledger.specs.Past.Refusals.{first_broken, is_taken, may_read};
@@ -233,6 +234,16 @@ impl Tables {
         ])
     }
 
+    /// No edit is granted yet: it is refused as if there were no message.
+    fn edit_refusal(&self, user: UserId) -> Option<Refusal>
+        ensures { (past : List Stamped) (message : MessageId) (text : List ℕ) → Holds self.now past → result ≡ behind.refusal past (Request.Edit user message text) }
+    {
+        first_broken(&[
+            (!self.is_user(user), Refusal::NoUser),
+            (true, Refusal::NoMessage),
+        ])
+    }
+
     fn delete_refusal(&self, user: UserId, message: MessageId) -> Option<Refusal>
         ensures { (past : List Stamped) → Holds self.now past → result ≡ behind.refusal past (Request.Delete user message) }
     {
@@ -297,6 +308,7 @@ impl Tables {
             Request::Direct { sender, to, text } => {
                 self.direct_refusal(*sender, to.as_slice(), text.as_str())
             }
+            Request::Edit { user, .. } => self.edit_refusal(*user),
             Request::Delete { user, message } => self.delete_refusal(*user, *message),
             Request::Read { user, messages } => self.read_refusal(*user, messages.as_slice()),
         }

@@ -276,6 +276,10 @@ impl Tables {
             Request::Mute { .. } => Answer::Done,
             Request::Send { .. } => self.sent(),
             Request::Direct { .. } => self.sent(),
+            Request::Edit { message, .. } => Answer::Edited {
+                message: *message,
+                deal: self.deals(),
+            },
             Request::Delete { .. } => Answer::Done,
             Request::Read { .. } => Answer::Done,
         }

@@ -12,7 +12,7 @@ use Rattle.chat_model.specs.declared.settings.Settings.{Settings}
 use Rattle.chat_model.specs.declared.mentions.UserName.{UserName}
 use Rattle.chat_model.specs.declared.mentions.GroupName.{GroupName}
 use Rattle.chat_model.specs.declared.request.Request.{Request}
-use Rattle.chat_model.specs.declared.request.Request.TheVariants.{AddUser, AddGroup, Member, AddChannel, Subscribe, Set, SetChannel, SetPolicy, Mute, Send, Direct, Delete, Read}
+use Rattle.chat_model.specs.declared.request.Request.TheVariants.{AddUser, AddGroup, Member, AddChannel, Subscribe, Set, SetChannel, SetPolicy, Mute, Send, Direct, Edit, Delete, Read}
 use Rattle.chat_model.specs.declared.settings.SettingChange.{SettingChange}
 use Rattle.chat_model.specs.declared.settings.SettingChange.TheVariants.{MailMentions, PushMentions, PushOnline, ChannelMail, ChannelPush, Wildcards, FollowedMail, FollowedPush, FollowedWildcards, Period}
 use Rattle.chat_model.specs.declared.policy.SpecificChange.{SpecificChange}
@@ -22,7 +22,7 @@ use Rattle.chat_model.specs.declared.deal.UserVerdict.{UserVerdict}
 use Rattle.chat_model.specs.declared.deal.Outcome.{Outcome}
 use Rattle.chat_model.specs.declared.deal.Outcome.TheVariants.{Dealt, Cleared, Missed}
 use Rattle.chat_model.specs.declared.event.Event.{Event}
-use Rattle.chat_model.specs.declared.event.Event.TheVariants.{Restart, Asked, Absorbed, MailTurn, PushTurn}
+use Rattle.chat_model.specs.declared.event.Event.TheVariants.{Restart, Asked, Absorbed, MailTurn, PushTurn, Spooled}
 use Rattle.chat_model.specs.declared.event.Stamped.{Stamped}
 use Rattle.chat_model.specs.declared.entry.Item.{Item}
 use Rattle.chat_model.specs.declared.entry.Conversation.{Conversation}
@@ -186,6 +186,7 @@ request_exact (SetChannel user channel change) (SetChannel user' channel' change
 request_exact (SetPolicy user channel topic policy) (SetPolicy user' channel' topic' policy') = (λ h. grind (arith, common_steps, text_exact), λ h. grind (arith, common_steps, text_exact))
 request_exact (Mute user other on) (Mute user' other' on') = (λ h. grind (arith, common_steps), λ h. grind (arith, common_steps))
 request_exact (Direct sender to text) (Direct sender' to' text') = (λ h. grind (arith, common_steps, text_exact, users_exact), λ h. grind (arith, common_steps, text_exact, users_exact))
+request_exact (Edit user message text) (Edit user' message' text') = (λ h. grind (arith, common_steps, text_exact), λ h. grind (arith, common_steps, text_exact))
 request_exact (Delete user message) (Delete user' message') = (λ h. grind (arith, common_steps), λ h. grind (arith, common_steps))
 request_exact (Read user messages) (Read user' messages') = (λ h. grind (arith, common_steps, message_ids_exact), λ h. grind (arith, common_steps, message_ids_exact))
 request_exact (Send sender channel topic text) (Send sender' channel' topic' text') = (λ h. grind (arith, common_steps, text_exact), λ h. grind (arith, common_steps, text_exact))
@@ -220,6 +221,7 @@ event_exact (Asked r) (Asked q) = (λ h. ap Asked ((request_exact r q).0 h), λ 
 event_exact (Absorbed o) (Absorbed p) = (λ h. ap Absorbed ((outcome_exact o p).0 h), λ h. (outcome_exact o p).1 cc)
 event_exact (MailTurn u) (MailTurn v) = (λ h. ap MailTurn ((user_exact u v).0 h), λ h. (user_exact u v).1 cc)
 event_exact (PushTurn i) (PushTurn j) = (λ h. ap PushTurn ((push_item_exact i j).0 h), λ h. (push_item_exact i j).1 cc)
+event_exact (Spooled n) (Spooled m) = (λ h. grind (arith, common_steps), λ h. grind (arith, common_steps))
 event_exact _ _ = (λ h. cc, λ h. cc)
 
 pub stamped_exact : (a b : Stamped) → Decides ((stamped_eq.ghosts).eq a b) (a ≡ b)

@@ -1,6 +1,8 @@
--- The table of the triggers: which counts first, and where each holds.
-use Rattle.std.specs.Prelude.{Bool, not, ◌&&◌, ◌||◌, List, [], ◌∷◌, Option, None, find, option_map, if◌then◌else◌}
+-- The table of the triggers: which counts first, and where each holds. And the gate of an edit.
+use Rattle.std.specs.Prelude.{Bool, true, false, not, ◌&&◌, ◌||◌, List, [], ◌∷◌, Option, None, find, option_map, if◌then◌else◌}
+use Rattle.std.specs.Option.{option_map_or}
 use Rattle.chat_model.specs.declared.facts.Facts.{Facts}
+use Rattle.chat_model.specs.declared.facts.Prior.{Prior}
 use Rattle.chat_model.specs.declared.settings.Settings.{Settings}
 use Rattle.chat_model.specs.declared.policy.Specific.{Specific}
 use Rattle.chat_model.specs.declared.trigger.Way.{Way}
@@ -54,6 +56,13 @@ follows_messages f w = followed f.policy (followed_switch w f.settings)
 abbrev pub allows_messages : Facts → Way → Bool
 allows_messages f w = allows f.specific.muted f.policy (specific_switch w f.specific) (channel_switch w f.settings)
 
+-- the last two triggers of the table: a message to a followed topic, and a message to a channel
+abbrev pub holds_followed_topic : Facts → Way → Bool
+holds_followed_topic f w = not f.direct && follows_messages f w
+
+abbrev pub holds_channel : Facts → Way → Bool
+holds_channel f w = not f.direct && allows_messages f w
+
 -- the triggers in their order
 abbrev pub trigger_table : Facts → Way → List TriggerRow
 trigger_table f w =
@@ -63,8 +72,8 @@ trigger_table f w =
     ∷ row FollowedChannelWildcard (f.channel_wildcard && follows_wildcards f w)
     ∷ row TopicWildcard (f.topic_wildcard && f.participant && allows_wildcards f w)
     ∷ row ChannelWildcard (f.channel_wildcard && allows_wildcards f w)
-    ∷ row FollowedTopic (not f.direct && follows_messages f w)
-    ∷ row Channel (not f.direct && allows_messages f w)
+    ∷ row FollowedTopic (holds_followed_topic f w)
+    ∷ row Channel (holds_channel f w)
     ∷ []
 
 -- the first trigger that holds
@@ -78,3 +87,29 @@ is_left_out f = f.own || f.bot || not f.recipient || f.sender_muted
 -- by what a message notifies a user by a way
 unfoldable pub trigger_of : Facts → Way → Option Trigger
 trigger_of f w = if is_left_out f then None else first_that_holds (trigger_table f w)
+
+-- ---- edits
+
+-- the triggers by which an edit notifies: a mention, and the four wildcards
+abbrev pub is_mention_or_wildcard : Trigger → Bool
+is_mention_or_wildcard Mention = true
+is_mention_or_wildcard FollowedTopicWildcard = true
+is_mention_or_wildcard FollowedChannelWildcard = true
+is_mention_or_wildcard TopicWildcard = true
+is_mention_or_wildcard ChannelWildcard = true
+is_mention_or_wildcard _ = false
+
+-- one of the last two triggers of the table holds by the way, whether or not an earlier one holds
+abbrev pub holds_without_mention : Facts → Way → Bool
+holds_without_mention f w = holds_followed_topic f w || holds_channel f w
+
+-- an edit may notify a user: the message is a channel message, the user hasn't read it, the text before the edit
+-- doesn't mention the user, and by neither way one of the last two triggers holds
+abbrev pub passes_gate : Prior → Facts → Bool
+passes_gate p f =
+    not f.direct && not p.read && not p.mentioned && not (holds_without_mention f Mail || holds_without_mention f Push)
+
+-- by what an edit notifies a user by a way, but that it doesn't where the message owed such a notice before: the gate lets
+-- it through, and its trigger is a mention or a wildcard
+unfoldable pub edit_trigger_of : Prior → Facts → Way → Option Trigger
+edit_trigger_of p f w = if passes_gate p f && option_map_or is_mention_or_wildcard (trigger_of f w) false then trigger_of f w else None

@@ -2,7 +2,7 @@
 ghost use Rattle.std.specs.Prelude.{◌≡◌, IfOk};
 
 use crate::duplicate::Duplicate;
-use crate::{Moment, OutOfMemory, Outcome, PushItem, Request, Same, UserId};
+use crate::{EntryNo, Moment, OutOfMemory, Outcome, PushItem, Request, Same, UserId};
 use std::alloc::Global;
 
 /// What happened.
@@ -18,6 +18,8 @@ pub enum Event {
     MailTurn(UserId),
     /// The push item that waited longest had its turn.
     PushTurn(PushItem),
+    /// An entry of the outbox was put into a file.
+    Spooled(EntryNo),
 }
 
 impl Event {
@@ -31,6 +33,7 @@ impl Event {
             Event::Absorbed(outcome) => Ok(Event::Absorbed(outcome.copy(alloc)?)),
             Event::MailTurn(user) => Ok(Event::MailTurn(*user)),
             Event::PushTurn(item) => Ok(Event::PushTurn(item.copy(alloc)?)),
+            Event::Spooled(number) => Ok(Event::Spooled(*number)),
         }
     }
 }

@@ -29,3 +29,13 @@ pub struct Facts {
     pub specific: Specific,
     pub settings: Settings,
 }
+
+/// What was so of a user and a message before an edit of it.
+#[derive(Clone, Copy, Debug, PartialEq, Eq)]
+pub struct Prior {
+    /// The user has read the message.
+    pub read: bool,
+    /// The text before the edit mentions the user in any form: by name, by a group of the user, all of the channel where
+    /// the user is a recipient, or all who take part in the topic where the user does. The user's settings don't count.
+    pub mentioned: bool,
+}

@@ -33,7 +33,7 @@ pub use deal::{Deal, Outcome, QueueId, UserVerdict, Verdict};
 pub use duplicate::{Duplicate, duplicate_all};
 pub use entry::{Conversation, Entry, Item};
 pub use event::{Event, Stamped};
-pub use facts::Facts;
+pub use facts::{Facts, Prior};
 pub use failed::Failed;
 pub use ids::{ChannelId, DealNo, EntryNo, GroupId, MessageId, UserId};
 pub use list::List;

@@ -66,6 +66,12 @@ pub enum Request {
         to: List<UserId>,
         text: Text,
     },
+    /// The user gives a message another text.
+    Edit {
+        user: UserId,
+        message: MessageId,
+        text: Text,
+    },
     Delete {
         user: UserId,
         message: MessageId,
@@ -147,6 +153,15 @@ impl Request {
                 to: to.copy()?,
                 text: text.copy()?,
             }),
+            Request::Edit {
+                user,
+                message,
+                text,
+            } => Ok(Request::Edit {
+                user: *user,
+                message: *message,
+                text: text.copy()?,
+            }),
             Request::Delete { user, message } => Ok(Request::Delete {
                 user: *user,
                 message: *message,
@@ -172,6 +187,8 @@ pub enum Answer {
     Group(GroupId),
     Channel(ChannelId),
     Sent { message: MessageId, deal: DealNo },
+    /// The deal is that of the edit.
+    Edited { message: MessageId, deal: DealNo },
     Done,
 }
 
@@ -188,7 +205,7 @@ pub enum Refusal {
     NoGroup,
     /// 14: a channel is made and a channel has that name, or a group is made and a group has it, without ASCII case.
     Exists,
-    /// 15: a deletion by another than the sender.
+    /// 15: an edit or a deletion by another than the sender.
     NotSender,
     /// 16: the sender is not subscribed to the channel.
     NotSubscribed,

@@ -339,6 +339,9 @@ fn events_are_copied(rt: HostRuntime) -> Result<(), Fail> {
         }
         _ => panic!(rt; "another event"),
     }
+    let spooled = Event::Spooled(EntryNo(7));
+    assert!(rt; spooled.is_same(&spooled.copy(alloc)?));
+    assert!(rt; !spooled.is_same(&Event::Spooled(EntryNo(8))));
     Ok(())
 }
 
@@ -443,7 +446,7 @@ fn removals_are_copied_with_their_messages(rt: HostRuntime) -> Result<(), Fail> 
 }
 
 #[test]
-fn reads_and_deletions_are_copied(rt: HostRuntime) -> Result<(), Fail> {
+fn edits_reads_and_deletions_are_copied(rt: HostRuntime) -> Result<(), Fail> {
     let alloc = rt.alloc();
     let read = Request::Read {
         user: UserId(2),
@@ -456,6 +459,13 @@ fn reads_and_deletions_are_copied(rt: HostRuntime) -> Result<(), Fail> {
     };
     assert!(rt; delete.is_same(&delete.copy(alloc)?));
     assert!(rt; !delete.is_same(&read));
+    let edit = Request::Edit {
+        user: UserId(1),
+        message: MessageId(3),
+        text: Text::from_str(alloc, "hi")?,
+    };
+    assert!(rt; edit.is_same(&edit.copy(alloc)?));
+    assert!(rt; !edit.is_same(&delete));
     Ok(())
 }
 

@@ -40,6 +40,8 @@ fn may_stand(
             Ok(is_next_turn(first, *user, at))
         }
         Event::PushTurn(item) => is_oldest(alloc, past, item),
+        // Nothing puts an entry into a file yet.
+        Event::Spooled(_) => Ok(false),
     }
 }
 

@@ -1,5 +1,6 @@
 //! Why a request is refused, by looking through the whole list of events.
-ghost use Rattle.std.specs.Prelude.{◌≡◌, Bool};
+ghost use Rattle.std.specs.Prelude.{◌≡◌, ℕ, Bool, List};
+ghost use Rattle.chat_model.specs.declared.ids.MessageId.{MessageId};
 ghost use Rattle.chat_model.specs.declared.policy.Policy.{Policy};
 ghost use Rattle.chat_model.specs.declared.policy.SpecificChange.{SpecificChange};
 ghost use Rattle.std.specs.List.{list_all};
@@ -204,6 +205,18 @@ fn direct_refusal(past: &[Stamped], sender: UserId, to: &[UserId], text: &str) -
     }
 }
 
+/// No edit is granted yet: it is refused as if there were no message.
+#[tactic(auto, unfolding(crate::specs::Past::Refusals::refusal))]
+fn edit_refusal(past: &[Stamped], user: UserId) -> Option<Refusal>
+    ensures { (message : MessageId) (text : List ℕ) → result ≡ refusal past.now (Request.Edit user message text) }
+{
+    if !is_user(past, user) {
+        Some(Refusal::NoUser)
+    } else {
+        Some(Refusal::NoMessage)
+    }
+}
+
 #[tactic(auto, unfolding(crate::specs::Past::Refusals::refusal))]
 fn deletion_refusal(past: &[Stamped], user: UserId, message: MessageId) -> Option<Refusal>
     ensures { result ≡ refusal past.now (Request.Delete user message) }
@@ -274,6 +287,7 @@ pub fn refusal(past: &[Stamped], request: &Request) -> Option<Refusal>
         Request::Direct { sender, to, text } => {
             direct_refusal(past, *sender, to.as_slice(), text.as_str())
         }
+        Request::Edit { user, .. } => edit_refusal(past, *user),
         Request::Delete { user, message } => deletion_refusal(past, *user, *message),
         Request::Read { user, messages } => read_refusal(past, *user, messages.as_slice()),
     }

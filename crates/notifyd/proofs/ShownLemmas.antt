@@ -9,7 +9,7 @@ use Rattle.chat_model.specs.declared.counts.Counts.{Counts}
 use Rattle.chat_model.specs.declared.request.Request.{Request}
 use Rattle.chat_model.specs.declared.request.Refusal.{Refusal}
 use Rattle.chat_model.specs.declared.request.Refusal.TheVariants.{NoUser, BadEventId, TooMany}
-use Rattle.chat_model.specs.declared.request.Answer.TheVariants.{User, Group, Channel, Sent, Done}
+use Rattle.chat_model.specs.declared.request.Answer.TheVariants.{User, Group, Channel, Sent, Edited, Done}
 use Rattle.office.specs.declared.answer.MailAnswer.TheVariants.{Mailed, NotDue}
 use Rattle.office.specs.declared.answer.PushAnswer.TheVariants.{Pushed, Removed, Dropped, NothingReady}
 use Rattle.chat_model.specs.declared.event.Event.TheVariants as event
@@ -181,6 +181,7 @@ gives-mark (reply.Answer (User user)) = record { one_line = one_line _ (answer_w
 gives-mark (reply.Answer (Group group)) = record { one_line = one_line _ (answer_words (Group group)) refl (decimal_plain group.0); mark = refl }
 gives-mark (reply.Answer (Channel channel)) = record { one_line = one_line _ (answer_words (Channel channel)) refl (decimal_plain channel.0); mark = refl }
 gives-mark (reply.Answer (Sent message deal)) = record { one_line = one_line _ (answer_words (Sent message deal)) refl (with_number (codes "sent " ++ decimal message.0) (codes " deal ") deal.0 (decimal_plain message.0) refl); mark = refl }
+gives-mark (reply.Answer (Edited message deal)) = record { one_line = one_line _ (answer_words (Edited message deal)) refl (with_number (codes "edited " ++ decimal message.0) (codes " deal ") deal.0 (decimal_plain message.0) refl); mark = refl }
 gives-mark (reply.Answer Done) = record { one_line = one_line _ (answer_words Done) refl refl; mark = refl }
 gives-mark (reply.Mail (Mailed user entries dropped)) = record { one_line = one_line _ (mail_words (Mailed user entries dropped)) refl (with_number (codes "mailed " ++ decimal user.0 ++ codes " entries=" ++ decimal entries) (codes " dropped=") dropped (with_number (codes "mailed " ++ decimal user.0) (codes " entries=") entries (decimal_plain user.0) refl) refl); mark = refl }
 gives-mark (reply.Mail (NotDue (Some moment))) = record { one_line = one_line _ (mail_words (NotDue (Some moment))) refl (decimal_plain moment); mark = refl }

@@ -2,7 +2,7 @@
 use Rattle.std.specs.Prelude.{ℕ, List, ◌++◌, ◌∷◌, [], codes, decimal, Some, None}
 use Rattle.chat_model.specs.declared.counts.Counts.{Counts}
 use Rattle.chat_model.specs.declared.request.Answer.{Answer}
-use Rattle.chat_model.specs.declared.request.Answer.TheVariants.{User, Group, Channel, Sent, Done}
+use Rattle.chat_model.specs.declared.request.Answer.TheVariants.{User, Group, Channel, Sent, Edited, Done}
 use Rattle.chat_model.specs.declared.request.Refusal.{Refusal}
 use Rattle.chat_model.specs.declared.request.Refusal.TheVariants.{BadEventId, TooMany}
 pub use Rattle.chat_model.specs.Refusals.{refusal_number}
@@ -19,6 +19,7 @@ answer_words (User user) = codes "user " ++ decimal user.0
 answer_words (Group group) = codes "group " ++ decimal group.0
 answer_words (Channel channel) = codes "channel " ++ decimal channel.0
 answer_words (Sent message deal) = codes "sent " ++ decimal message.0 ++ codes " deal " ++ decimal deal.0
+answer_words (Edited message deal) = codes "edited " ++ decimal message.0 ++ codes " deal " ++ decimal deal.0
 answer_words Done = codes "ok"
 
 -- what a mail turn is answered

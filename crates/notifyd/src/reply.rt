@@ -102,6 +102,12 @@ fn answer_words(answer: &Answer) -> Words<'_>
             Part::Word(" deal "),
             Part::Number(deal.0),
         ]),
+        Answer::Edited { message, deal } => Words::of(&[
+            Part::Word("edited "),
+            Part::Number(message.0),
+            Part::Word(" deal "),
+            Part::Number(deal.0),
+        ]),
         Answer::Done => Words::word("ok"),
     }
 }

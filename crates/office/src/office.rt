@@ -136,7 +136,7 @@ fn unused_after(unused: bool, event: &Event) -> bool
         Event::Restart => true,
         Event::Absorbed(_) => false,
         Event::Asked(request) => unused && !sends(request),
-        Event::MailTurn(_) | Event::PushTurn(_) => unused,
+        Event::MailTurn(_) | Event::PushTurn(_) | Event::Spooled(_) => unused,
     }
 }
 

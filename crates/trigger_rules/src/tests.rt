@@ -1,4 +1,4 @@
-use crate::{Facts, trigger};
+use crate::{Facts, Prior, edit_owes, trigger};
 use chat_model::{Policy, Settings, Specific, Trigger, Way};
 use std::test::Fail;
 
@@ -157,5 +157,67 @@ fn who_is_left_out(rt: HostRuntime) {
     };
     for facts in [own, bot, muted, elsewhere] {
         assert_eq!(rt; trigger(&facts, Way::Mail), None, "{facts:?}");
+    }
+}
+
+/// What was so before the edit: the user hadn't read the message, and the text didn't mention the user.
+const BEFORE: Prior = Prior {
+    read: false,
+    mentioned: false,
+};
+
+/// The triggers by which an edit notifies.
+const EDITED: [Trigger; 5] = [
+    Trigger::Mention,
+    Trigger::FollowedTopicWildcard,
+    Trigger::FollowedChannelWildcard,
+    Trigger::TopicWildcard,
+    Trigger::ChannelWildcard,
+];
+
+#[test]
+fn an_edit_notifies_by_a_mention_and_by_the_wildcards(rt: HostRuntime) -> Result<(), Fail> {
+    for way in [Way::Mail, Way::Push] {
+        for one in EDITED {
+            assert_eq!(rt; edit_owes(&BEFORE, &alone(one), way), Some(one));
+        }
+        for one in [Trigger::Direct, Trigger::FollowedTopic, Trigger::Channel] {
+            assert_eq!(rt; edit_owes(&BEFORE, &alone(one), way), None, "{one:?}");
+        }
+        assert_eq!(rt; edit_owes(&BEFORE, &recipient(), way), None);
+    }
+    Ok(())
+}
+
+#[test]
+fn each_condition_of_the_gate_alone_stops_an_edit(rt: HostRuntime) {
+    let mentioned = alone(Trigger::Mention);
+    let read = Prior {
+        read: true,
+        ..BEFORE
+    };
+    assert_eq!(rt; edit_owes(&read, &mentioned, Way::Mail), None);
+    let mentioned_before = Prior {
+        mentioned: true,
+        ..BEFORE
+    };
+    assert_eq!(rt; edit_owes(&mentioned_before, &mentioned, Way::Mail), None);
+    let direct = Facts {
+        direct: true,
+        ..mentioned
+    };
+    let left_out = Facts {
+        own: true,
+        ..mentioned
+    };
+    let mut followed = mentioned;
+    followed.policy = Policy::Followed;
+    followed.settings.followed_push = true;
+    let mut heard = mentioned;
+    heard.settings.channel_mail = true;
+    for facts in [direct, left_out, followed, heard] {
+        for way in [Way::Mail, Way::Push] {
+            assert_eq!(rt; edit_owes(&BEFORE, &facts, way), None, "{facts:?}");
+        }
     }
 }

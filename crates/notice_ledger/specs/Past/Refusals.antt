@@ -1,5 +1,5 @@
 -- Which rule of a request is broken.
-use Rattle.std.specs.Prelude.{ℕ, Bool, false, ◌&&◌, ◌||◌, ◌==◌, not, nat_lt, List, [], ◌∷◌, length, Option, Some, None, if◌then◌else◌}
+use Rattle.std.specs.Prelude.{ℕ, Bool, true, false, ◌&&◌, ◌||◌, ◌==◌, not, nat_lt, List, [], ◌∷◌, length, Option, Some, None, if◌then◌else◌}
 use Rattle.std.specs.List.{list_all, list_any}
 use Rattle.std.specs.Option.{option_map_or}
 use Rattle.std.specs.Str.{str_eq_ignore_ascii_case}
@@ -7,7 +7,7 @@ use Rattle.chat_model.specs.declared.event.Stamped.{Stamped}
 use Rattle.chat_model.specs.declared.ids.MessageId.{MessageId}
 use Rattle.chat_model.specs.declared.ids.UserId.{UserId}
 use Rattle.chat_model.specs.declared.request.Request.{Request}
-use Rattle.chat_model.specs.declared.request.Request.TheVariants.{AddUser, AddGroup, Member, AddChannel, Subscribe, Set, SetChannel, SetPolicy, Mute, Send, Direct, Delete, Read}
+use Rattle.chat_model.specs.declared.request.Request.TheVariants.{AddUser, AddGroup, Member, AddChannel, Subscribe, Set, SetChannel, SetPolicy, Mute, Send, Direct, Edit, Delete, Read}
 use Rattle.chat_model.specs.declared.request.Refusal.{Refusal}
 use Rattle.chat_model.specs.declared.request.Refusal.TheVariants.{NoUser, NoChannel, NoMessage, NoGroup, Exists, NotSender, NotSubscribed, EmptyText, TextTooLong, TopicTooLong, BadPeriod, TooMany, NameTooLong, BadName}
 use Rattle.chat_model.specs.declared.settings.SettingChange.{SettingChange}
@@ -98,6 +98,11 @@ rules_of j (Direct sender to text) =
     ∷ rule (is_blank text) EmptyText
     ∷ rule (is_longer_than longest_text text) TextTooLong
     ∷ rule (nat_lt most_items (length to)) (TooMany most_items)
+    ∷ []
+-- no edit is granted yet: it is refused as if there were no message
+rules_of j (Edit user m text) =
+    rule (not (is_user j user)) NoUser
+    ∷ rule true NoMessage
     ∷ []
 rules_of j (Delete user m) =
     rule (not (is_user j user)) NoUser

@@ -1,7 +1,7 @@
-use Rattle.std.proofs.Common.{ℕ, List, Some, sym, ap, refl, ◌∙◌, subst}
+use Rattle.std.proofs.Common.{ℕ, Bool, List, None, Some, ◌&&◌, false≢true, sym, ap, refl, ◌∙◌, subst}
 use Rattle.std.proofs.lemmas.Bool.{and_parts}
 use Rattle.std.specs.Option.{option_map_or}
-use Rattle.std.specs.Prelude.{Option, slice_get, false, ◌≡◌, true, nat_le, ◌++◌, ◌∷◌, [], Result, IfOk}
+use Rattle.std.specs.Prelude.{Option, is_none, slice_get, false, ◌≡◌, true, nat_le, ◌++◌, ◌∷◌, [], Result, IfOk}
 use Rattle.chat_model.specs.declared.memory.OutOfMemory.{OutOfMemory}
 use Rattle.chat_model.specs.Rows.{changed_all}
 use Rattle.chat_model.specs.declared.event.Stamped.{Stamped}
@@ -10,14 +10,18 @@ use Rattle.chat_model.specs.declared.event.Event.TheVariants.{Restart, Asked, Ab
 use Rattle.notice_ledger.specs.Lawful.{lawful, is_lawful_after}
 use Rattle.notice_ledger.specs.Past.Journal.{last_stamp}
 use Rattle.notice_ledger.specs.Past.Lawful.{may_stand}
+use Rattle.notice_ledger.specs.Past.Refusals.{refusal}
+use Rattle.notice_ledger.specs.InOrder.{is_in_order}
 use Rattle.notice_ledger.specs.Rows.{rows}
 use Rattle.chat_model.specs.declared.push_item.PushItem.{PushItem}
+use Rattle.chat_model.specs.declared.request.Refusal.{Refusal}
+use Rattle.chat_model.specs.declared.request.Request.{Request}
 use Rattle.notice_ledger.specs.Past.Pushes.{is_push_turn, same_item}
 use Rattle.notice_ledger.proofs.PushesWait.{turned_first, same_item-exact}
 use Rattle.book_tables.specs.declared.tables.Tables.{Tables}
 use Rattle.book_tables.specs.declared.prepared.Prepared.{Prepared}
 use Rattle.book_tables.specs.Tables.{StandsFor, IsOldest}
-use Rattle.book_tables.specs.Prepared.{Follows, FollowsAll, IsPreparedFor, MayFollow, changes_of}
+use Rattle.book_tables.specs.Prepared.{Follows, FollowsAll, IsGranted, IsPreparedFor, MayFollow, changes_of}
 use Rattle.notice_ledger.proofs.LawfulLemmas.{lawful-lawful}
 use Rattle.book_tables.proofs.Steps.{if_ok_then}
 use Rattle.book_tables.proofs.RowsAfter.{changes-kept}
@@ -45,12 +49,24 @@ module _ (t : Tables) (s : Stamped) (e : Event) (turn : (j : List Stamped) → S
       if_ok_then (λ (p : Prepared). FollowsAll t (record { at = s.at; event = e }) p)
       (λ (p : Prepared). (j : List Stamped) → StandsFor t j → is_lawful_after j s ≡ true → changed_all (changes_of p) (rows j) ≡ rows (j ++ s ∷ [])) (λ p f. kept t s e turn p is f) result follows
 
--- the item of a turn that may come waits longest
-oldest : (t : Tables) (s : Stamped) (item : PushItem) → s.event ≡ PushTurn item → MayFollow t s → IsOldest t item
-oldest t s item is may =
+-- an event that may follow may stand behind the lawful part
+stands : (t : Tables) (s : Stamped) (e : Event) → s.event ≡ e → (may : MayFollow t s) → may_stand (lawful may.0) s.at e ≡ true
+stands t s e is may =
     let j = may.0 in
     let stand = (and_parts (nat_le (last_stamp (lawful j)) s.at) (may_stand (lawful j) s.at s.event) may.2).1 in
-    (j, may.1, turned_first (lawful j) s.at item (subst (λ (e : Event). may_stand (lawful j) s.at e ≡ true) is stand))
+    subst (λ (x : Event). may_stand (lawful j) s.at x ≡ true) is stand
+
+-- the item of a turn that may come waits longest
+oldest : (t : Tables) (s : Stamped) (item : PushItem) → s.event ≡ PushTurn item → MayFollow t s → IsOldest t item
+oldest t s item is may = (may.0, may.1, turned_first (lawful may.0) s.at item (stands t s (PushTurn item) is may))
+
+-- a request whose event may follow is granted
+granted : (t : Tables) (s : Stamped) (r : Request) → s.event ≡ Asked r → MayFollow t s → IsGranted r
+granted t s r is may = (lawful may.0, none_from (refusal (lawful may.0) r) (is_in_order r) (stands t s (Asked r) is may))
+  where
+    none_from : (o : Option Refusal) (b : Bool) → (is_none o && b) ≡ true → o ≡ None
+    none_from None b h = refl
+    none_from (Some n) b h = absurd (cc)
 
 -- so the turn of the item that waits longest may come
 turned : (t : Tables) (item : PushItem) (waits : IsOldest t item) (at : ℕ) (j : List Stamped) → StandsFor t j → may_stand (lawful j) at (PushTurn item) ≡ true
@@ -86,6 +102,12 @@ returns-in-PushTurn-clause-prepared c = all_prepared c.args.self.now c.args.even
 
 pub returns-in-PushTurn-clause-changes : goal.returns-in-PushTurn-clause-changes
 returns-in-PushTurn-clause-changes c = all_kept c.args.self.now c.args.event.now (PushTurn c.in-PushTurn.item) (λ j stands is. turned c.args.self.now c.in-PushTurn.item (oldest c.args.self.now c.args.event.now c.in-PushTurn.item c.in-PushTurn.is c.requires) c.args.event.now.at j stands) c.in-PushTurn.is c.prepare_turn.result c.prepare_turn.ensures
+
+pub prepare_asked-requires-granted : goal.prepare_asked-requires-granted
+prepare_asked-requires-granted c = granted c.args.self.now c.args.event.now c.in-Asked.request c.in-Asked.is c.requires
+
+pub unreachable-requires : goal.unreachable-requires
+unreachable-requires c = absurd (false≢true (stands c.args.self.now c.args.event.now _ c.in-Spooled.is c.requires))
 
 pub prepare_turn-requires : goal.prepare_turn-requires
 prepare_turn-requires c = oldest c.args.self.now c.args.event.now c.in-PushTurn.item c.in-PushTurn.is c.requires

@@ -1,11 +1,31 @@
-use Rattle.std.proofs.Common.{sym, ap, ◌∙◌, subst, List, ℕ}
+use Rattle.std.proofs.Common.{◌≡◌, ⊥, Bool, true, false, None, sym, ap, ◌∙◌, subst, List, [], ◌∷◌, ℕ}
+use Rattle.std.specs.Prelude.{not}
 use Rattle.chat_model.specs.declared.event.Event.TheVariants.{Asked}
+use Rattle.chat_model.specs.declared.event.Stamped.{Stamped}
+use Rattle.chat_model.specs.declared.ids.MessageId.{MessageId}
+use Rattle.chat_model.specs.declared.ids.UserId.{UserId}
+use Rattle.chat_model.specs.declared.request.Refusal.TheVariants.{NoUser, NoMessage}
 use Rattle.chat_model.specs.declared.request.Request.{Request}
-use Rattle.book_tables.specs.Prepared.{IsNext, Follows}
+use Rattle.chat_model.specs.declared.request.Request.TheVariants.{Edit}
+use Rattle.notice_ledger.specs.Past.Refusals.{first_broken, refusal, rule}
+use Rattle.notice_ledger.specs.Past.Values.{is_user}
+use Rattle.book_tables.specs.Prepared.{IsGranted, IsNext, Follows}
 use Rattle.book_tables.specs.declared.prepared.Effect.TheVariants as effect
 use Rattle.book_tables.proofs.Following.{no-changes_member, no-changes_channel, no-changes_subscription, no-changes_specific, no-changes_mute}
 use Rattle.book_tables.proofs.Steps.{as_made}
 use Rattle.book_tables.proofs.tables.Tables.prepare_asked.Goals as goal
+
+-- no edit is granted
+ungranted : (user : UserId) (message : MessageId) (text : List ℕ) → IsGranted (Edit user message text) → ⊥
+unfolding refusal
+ungranted user message text granted = by (not (is_user granted.0 user)) granted.1
+  where
+    by : (b : Bool) → first_broken (rule b NoUser ∷ rule true NoMessage ∷ []) ≡ None → ⊥
+    by true h = absurd (cc)
+    by false h = absurd (cc)
+
+pub unreachable-requires : goal.unreachable-requires
+unreachable-requires c = ungranted c.in-Edit.user c.in-Edit.message c.in-Edit.text (subst IsGranted c.in-Edit.is c.requires.granted)
 
 pub returns-in-Member : goal.returns-in-Member
 returns-in-Member c = λ past h next.
