@@ -1,7 +1,6 @@
-//! Whole scripts with groups: whom they mention, and by which group each item of a mail came.
+//! By which group each item of a mail came.
 use super::*;
 use crate::kept_tests::expect_worked_over;
-use crate::preference_tests::{expect_counted, opened};
 use chat_model::{Entry, Item, List, Row};
 use keeper::{Keeper, Kept, MemoryKeeper};
 use std::alloc::{AllocError, Global};
@@ -41,63 +40,60 @@ fn kept_groups(alloc: Global, keeper: &mut MemoryKeeper) -> Result<Vec<u64>, Fai
     Ok(groups)
 }
 
-// Behind the opening and these rows, the items that are kept came by these groups.
+// Behind these rows, the items that are kept came by these groups.
 fn expect_groups<R: Abort + AllocGlobal>(rt: &R, rows: &str, groups: &[u64]) -> Result<(), Fail> {
-    let worked = opened(rt.alloc(), rows)?;
     let keeper = MemoryKeeper::new(rt.alloc(), List::new(rt.alloc()));
-    let mut keeper = expect_worked_over(rt, "play", keeper, worked.as_str(), 0)?;
+    let mut keeper = expect_worked_over(rt, "play", keeper, rows, 0)?;
     let found = kept_groups(rt.alloc(), &mut keeper)?;
     assert_eq!(rt; found.as_slice(), groups);
     Ok(())
 }
 
-/// Each goes behind the opening, with `ready N` and `dealt K LIST` for the lines that they stand for. The first has
-/// items of three groups and one that came by name.
-pub const GROUPS: [&str; 3] = [
-    r#"# By name, else by the smallest group of the user, and of several by the lowest number.
+// By name, else by the smallest group of the user, and of several by the lowest number.
+const SEVERAL: &str = r#"user "Ada" => user 1
+user "Ben" => user 2
+channel "team" => channel 1
+sub 1 1 on => ok
+sub 2 1 on => ok
+at 100
 group "ops" 2,1,2 => group 1
 group "dev" 2 => group 2
 group "web" 2 => group 3
 send 1 1 "lunch" "@*ops* @*web* @*dev*" => sent 1 deal 0
-dealt 0 2=idle
+deal => dealt 0 2=idle
+absorb => absorbed dealt 0
 send 1 1 "lunch" "@*ops* @**Ben**" => sent 2 deal 1
-dealt 1 2=idle
+deal => dealt 1 2=idle
+absorb => absorbed dealt 1
 send 1 1 "lunch" "@*ops*" => sent 3 deal 2
-dealt 2 2=idle
+deal => dealt 2 2=idle
+absorb => absorbed dealt 2
 send 1 1 "lunch" "@*OPS* @*web*" => sent 4 deal 3
-dealt 3 2=idle
-ready 8
+deal => dealt 3 2=idle
+absorb => absorbed dealt 3
+audit => audit flight=0 held=0 ready=8 handed=0 read=0 deleted=0 off=0 live=0 entries=0 waiting=0 written=0
 at 220
 mail => mailed 2 entries=1 dropped=0
-"#,
-    r#"# A smaller group of others doesn't count.
+"#;
+
+// A smaller group of others doesn't count.
+const OTHERS: &str = r#"user "Ada" => user 1
+user "Ben" => user 2
+channel "team" => channel 1
+sub 1 1 on => ok
+sub 2 1 on => ok
+at 100
 group "ops" 1,2 => group 1
 group "x" 1 => group 2
 send 1 1 "lunch" "@*ops* @*x*" => sent 1 deal 0
-dealt 0 2=idle
+deal => dealt 0 2=idle
+absorb => absorbed dealt 0
 at 220
 mail => mailed 2 entries=1 dropped=0
-"#,
-    r#"# A membership is what its last change made it.
-group "ops" 2 => group 1
-member 1 2 off => ok
-send 1 1 "lunch" "@*ops*" => sent 1 deal 0
-dealt 0 -
-ready 0
-member 1 2 on => ok
-send 1 1 "lunch" "@*ops*" => sent 2 deal 1
-dealt 1 2=idle
-ready 2
-"#,
-];
+"#;
 
 #[test]
 fn an_item_comes_by_the_smallest_group_of_its_user(rt: HostRuntime) -> Result<(), Fail> {
-    expect_groups(&rt, GROUPS[0], &[2, 0, 1, 3])?;
-    expect_groups(&rt, GROUPS[1], &[1])
-}
-
-#[test]
-fn a_group_mentions_who_is_a_member_at_the_send(rt: HostRuntime) -> Result<(), Fail> {
-    expect_counted(&rt, GROUPS[2])
+    expect_groups(&rt, SEVERAL, &[2, 0, 1, 3])?;
+    expect_groups(&rt, OTHERS, &[1])
 }

@@ -1,6 +1,6 @@
-//! Runs over what an earlier run kept.
+//! What a run keeps: the accounts of its notices, and rows that were changed.
 use super::*;
-use crate::run_tests::{IDLE, NEVER, OPENING, expect_over, lines_and_answers};
+use crate::run_tests::{NEVER, expect_over, lines_and_answers};
 use chat_model::{
     ChannelId, Conversation, DealNo, Entry, EntryNo, List, MessageId, Moment, Row, RowChange,
     RowKey, Settings, Stage, Trigger, UserId, Way, change_all,
@@ -33,46 +33,33 @@ pub fn expect_worked_over<R: Abort + AllocGlobal>(
     )
 }
 
-// A keeper over which the opening and the first example were played.
+// Ada mentions Ben, who is mailed once the period is over.
+const IDLE: &str = r#"user "Ada" => user 1
+user "Ben" => user 2
+channel "team" => channel 1
+sub 1 1 on => ok
+sub 2 1 on => ok
+at 100
+send 1 1 "lunch" "hi @**Ben**" => sent 1 deal 0
+deal => dealt 0 2=idle
+absorb => absorbed dealt 0
+audit => audit flight=0 held=0 ready=2 handed=0 read=0 deleted=0 off=0 live=0 entries=0 waiting=0 written=0
+at 219
+mail => not due 220
+at 220
+mail => mailed 2 entries=1 dropped=0
+mail => not due -
+audit => audit flight=0 held=0 ready=1 handed=1 read=0 deleted=0 off=0 live=0 entries=1 waiting=0 written=0
+"#;
+
+// A keeper over which the first example was played.
 fn first_example<R: Abort + AllocGlobal>(rt: &R) -> Result<MemoryKeeper, Fail> {
     let keeper = MemoryKeeper::new(rt.alloc(), List::new(rt.alloc()));
-    let worked = format!(in rt.alloc(); "{OPENING}{IDLE}")?;
-    expect_worked_over(rt, "play", keeper, worked.as_str(), 0)
+    expect_worked_over(rt, "play", keeper, IDLE, 0)
 }
 
-// An audit has no lines, only its answer.
-const AUDITED: &str =
-    " => audit flight=0 held=0 ready=1 handed=1 read=0 deleted=0 off=0 live=0 entries=1 waiting=0 written=0";
-
-#[test]
-fn a_run_takes_up_what_an_earlier_one_kept(rt: HostRuntime) -> Result<(), Fail> {
-    let rows = r#"send 1 1 "Lunch" "again @**Ben**" => sent 2 deal 1
-deal => dealt 1 2=idle
-absorb => absorbed dealt 1
-mail => not due 340
-user "Cy" => user 3
-at 340
-mail => mailed 2 entries=1 dropped=0
-audit => audit flight=0 held=0 ready=2 handed=2 read=0 deleted=0 off=0 live=0 entries=2 waiting=0 written=0
-"#;
-    let runs = [
-        ("audit", AUDITED),
-        ("play", ""),
-        ("audit", AUDITED),
-        ("play", rows),
-    ];
-    let mut keeper = first_example(&rt)?;
-    for (command, worked) in runs {
-        keeper = expect_worked_over(&rt, command, keeper, worked, 0)?;
-    }
-    Ok(())
-}
-
-/// The scripts of runs, each over what the earlier ones kept, and the counts behind it.
-pub const RUNS: [(&str, &str); 5] = [
-    (
-        r#"# Of three messages the notices of one are cleared, those of one held, and those of one in flight.
-user "Ada" => user 1
+// Of three messages the notices of one are cleared, those of one held, and those of one in flight.
+const UNDECIDED: &str = r#"user "Ada" => user 1
 user "Ben" => user 2
 channel "team" => channel 1
 sub 1 1 on => ok
@@ -90,12 +77,10 @@ deal => dealt 1 2=live
 absorb => absorbed dealt 1
 send 1 1 "lunch" "hi @**Ben**" => sent 3 deal 2
 deal => dealt 2 2=live
-"#,
-        "audit => audit flight=2 held=2 ready=0 handed=0 read=0 deleted=0 off=0 live=2 entries=0 waiting=0 written=0",
-    ),
-    (
-        r#"# A start makes ready what is undecided.
-audit => audit flight=0 held=0 ready=4 handed=0 read=0 deleted=0 off=0 live=2 entries=0 waiting=0 written=0
+"#;
+
+// A start makes ready what is undecided.
+const STARTED: &str = r#"audit => audit flight=0 held=0 ready=4 handed=0 read=0 deleted=0 off=0 live=2 entries=0 waiting=0 written=0
 absorb => nothing waiting
 deal => no deal
 ack 2 1:1 none => refused 21
@@ -103,46 +88,7 @@ at 219
 mail => not due 220
 at 220
 mail => mailed 2 entries=1 dropped=0
-"#,
-        "audit => audit flight=0 held=0 ready=2 handed=2 read=0 deleted=0 off=0 live=2 entries=1 waiting=0 written=0",
-    ),
-    (
-        r#"# What is cleared and not absorbed is held.
-mail => not due -
-register 2 => queue 3:1
-beat 2 => ok
-send 1 1 "lunch" "hi @**Ben**" => sent 4 deal 3
-deal => dealt 3 2=live
-absorb => absorbed dealt 3
-ack 2 3:1 0 => items -
-"#,
-        "audit => audit flight=0 held=2 ready=2 handed=2 read=0 deleted=0 off=0 live=2 entries=1 waiting=0 written=0",
-    ),
-    (
-        r#"# So it is owed after the next start.
-absorb => nothing waiting
-at 300
-user "Cy" => user 3
-"#,
-        "audit => audit flight=0 held=0 ready=4 handed=2 read=0 deleted=0 off=0 live=2 entries=1 waiting=0 written=0",
-    ),
-    (
-        r#"# Once is enough: another start makes nothing of it ready again.
-mail => not due 340
-"#,
-        "audit => audit flight=0 held=0 ready=4 handed=2 read=0 deleted=0 off=0 live=2 entries=1 waiting=0 written=0",
-    ),
-];
-
-#[test]
-fn a_start_makes_ready_what_is_undecided(rt: HostRuntime) -> Result<(), Fail> {
-    let mut keeper = MemoryKeeper::new(rt.alloc(), List::new(rt.alloc()));
-    for (script, counts) in RUNS {
-        keeper = expect_worked_over(&rt, "play", keeper, script, 0)?;
-        keeper = expect_worked_over(&rt, "audit", keeper, counts, 0)?;
-    }
-    Ok(())
-}
+"#;
 
 // The accounts of Ben's notices of the first three messages in what is kept, of each message by mail and by push.
 fn kept_accounts(alloc: Global, keeper: &mut MemoryKeeper) -> Result<Vec<Account>, Fail> {
@@ -183,7 +129,7 @@ fn notices_have_their_accounts_in_what_is_kept(rt: HostRuntime) -> Result<(), Fa
         Account::Flight,
         Account::Flight,
     ];
-    let keeper = expect_accounts(&rt, keeper, RUNS[0].0, &undecided)?;
+    let keeper = expect_accounts(&rt, keeper, UNDECIDED, &undecided)?;
     let started = [
         Account::LiveQueue,
         Account::LiveQueue,
@@ -192,7 +138,7 @@ fn notices_have_their_accounts_in_what_is_kept(rt: HostRuntime) -> Result<(), Fa
         Account::Handed,
         Account::Ready,
     ];
-    expect_accounts(&rt, keeper, RUNS[1].0, &started)?;
+    expect_accounts(&rt, keeper, STARTED, &started)?;
     Ok(())
 }
 

@@ -43,33 +43,15 @@ use std::process::ExitCode;
 use std::{env, io};
 
 #[cfg(test)]
-mod batch_tests;
-#[cfg(test)]
-mod deletion_tests;
-#[cfg(test)]
 mod group_tests;
-#[cfg(test)]
-mod hook_tests;
-#[cfg(test)]
-mod hub_tests;
 #[cfg(test)]
 mod kept_tests;
 #[cfg(test)]
 mod listed_tests;
 #[cfg(test)]
-mod period_tests;
-#[cfg(test)]
 mod play_tests;
 #[cfg(test)]
-mod preference_tests;
-#[cfg(test)]
-mod push_tests;
-#[cfg(test)]
-mod read_tests;
-#[cfg(test)]
 mod removal_tests;
-#[cfg(test)]
-mod request_tests;
 #[cfg(test)]
 mod run_tests;
 #[cfg(test)]

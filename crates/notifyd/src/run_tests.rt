@@ -1,5 +1,5 @@
-//! Whole scripts over devices in memory. A worked script is written as the rules write it: each line with its answer
-//! behind ` => `, and without one where the line has none.
+//! Runs over devices in memory, with what no worked script has: scripts at their limits, devices that fail, other words.
+//! Each line of a script stands with its answer behind ` => `, and without one where the line has none.
 ghost use Rattle.std.specs.Prelude.{ℕ, ◌≤◌};
 
 use super::*;
@@ -9,27 +9,16 @@ use std::alloc::{AllocError, Global};
 use std::process::Abort;
 use std::test::Fail;
 
-/// What most worked scripts begin with.
-pub const OPENING: &str = r#"user "Ada" => user 1
-user "Ben" => user 2
-channel "team" => channel 1
-sub 1 1 on => ok
-sub 2 1 on => ok
-at 100
-"#;
-
-// The numbers of the calls at which each device fails.
+// The numbers of the calls at which source and sink fail.
 #[derive(Clone, Copy)]
 pub struct Failing<'a> {
     pub source: &'a [u64],
     pub sink: &'a [u64],
-    pub keeper: &'a [u64],
 }
 
 pub const NEVER: Failing<'static> = Failing {
     source: &[],
     sink: &[],
-    keeper: &[],
 };
 
 fn list_of(alloc: Global, numbers: &[u64]) -> Result<List<u64>, AllocError> {
@@ -79,7 +68,7 @@ pub fn expect_run<R: Abort + AllocGlobal>(
 ) -> Result<(), Fail>
     requires { 1 ≤ piece }
 {
-    let keeper = MemoryKeeper::new(rt.alloc(), list_of(rt.alloc(), failing.keeper)?);
+    let keeper = MemoryKeeper::new(rt.alloc(), List::new(rt.alloc()));
     expect_over(rt, "play", keeper, bytes, piece, failing, written, status)?;
     Ok(())
 }
@@ -126,111 +115,36 @@ pub fn expect_worked<R: Abort + AllocGlobal>(
     )
 }
 
-/// Plays the opening and the rows of a worked script behind it, to status 0.
-pub fn expect_opened<R: Abort + AllocGlobal>(rt: &R, rows: &str) -> Result<(), Fail> {
-    let worked = format!(in rt.alloc(); "{OPENING}{rows}")?;
-    expect_worked(rt, worked.as_str(), 4_096, &NEVER, 0)
-}
-
-/// Behind the opening, Ada mentions Ben, who is mailed once the period is over.
-pub const IDLE: &str = r#"# Ada mentions Ben.
-send 1 1 "lunch" "hi @**Ben**" => sent 1 deal 0
-deal => dealt 0 2=idle
-absorb => absorbed dealt 0
-audit => audit flight=0 held=0 ready=2 handed=0 read=0 deleted=0 off=0 live=0 entries=0 waiting=0 written=0
-at 219
-mail => not due 220
-at 220
-mail => mailed 2 entries=1 dropped=0
-mail => not due -
-audit => audit flight=0 held=0 ready=1 handed=1 read=0 deleted=0 off=0 live=0 entries=1 waiting=0 written=0
-"#;
-
+// The second call of the source or of the sink fails.
 #[test]
-fn an_idle_user_is_mailed_after_the_period(rt: HostRuntime) -> Result<(), Fail> {
-    let worked = format!(in rt.alloc(); "{OPENING}{IDLE}")?;
-    for piece in [1, 4_096] {
-        assert!(rt; 1 <= piece);
-        expect_worked(&rt, worked.as_str(), piece, &NEVER, 0)?;
-    }
-    Ok(())
-}
-
-// The start makes the first two calls of the keeper, and the opening five more.
-#[test]
-fn what_fails_is_answered_and_may_end_the_play(rt: HostRuntime) -> Result<(), Fail> {
-    let opened = r#"send 1 1 "lunch" "hi @**Ben**" => fault keeper
-send 1 1 "lunch" "hi @**Ben**" => sent 1 deal 0
-"#;
-    let worked = format!(in rt.alloc(); "{OPENING}{opened}")?;
-    let keeper = Failing {
-        keeper: &[8],
-        ..NEVER
-    };
-    expect_worked(&rt, worked.as_str(), 4_096, &keeper, 5)?;
-    let start = Failing {
-        keeper: &[1],
-        ..NEVER
-    };
-    expect_worked(&rt, r#"user "Ada" => fault keeper"#, 4_096, &start, 5)?;
+fn what_fails_is_answered_or_ends_the_play(rt: HostRuntime) -> Result<(), Fail> {
     let source = Failing {
         source: &[2],
         ..NEVER
     };
-    let worked = r#"user "Ada" => user 1
-user "Ben" => fault source"#;
-    expect_worked(&rt, worked, 12, &source, 3)?;
     let sink = Failing {
         sink: &[2],
         ..NEVER
     };
-    let worked = r#"user "Ada" => user 1
-user "Ben""#;
-    expect_worked(&rt, worked, 4_096, &sink, 4)
-}
-
-/// Behind the opening, an outcome whose absorption fails, as the keeper's ninth call does: the start makes the first two,
-/// the opening five more, and the send one.
-pub const ABSORBED_NEXT: &str = r#"send 1 1 "lunch" "hi @**Ben**" => sent 1 deal 0
-deal => dealt 0 2=idle
-absorb => fault keeper
-audit => audit flight=2 held=0 ready=0 handed=0 read=0 deleted=0 off=0 live=0 entries=0 waiting=0 written=0
-at 130
-absorb => absorbed dealt 0
-absorb => nothing waiting
-mail => not due 250
-"#;
-
-#[test]
-fn an_outcome_whose_absorption_failed_is_absorbed_next(rt: HostRuntime) -> Result<(), Fail> {
-    let worked = format!(in rt.alloc(); "{OPENING}{ABSORBED_NEXT}")?;
-    let keeper = Failing {
-        keeper: &[9],
-        ..NEVER
-    };
-    expect_worked(&rt, worked.as_str(), 4_096, &keeper, 5)
-}
-
-#[test]
-fn scripts_end_with_their_status(rt: HostRuntime) -> Result<(), Fail> {
     let rows = [
-        ("", 0),
         (
-            "audit => audit flight=0 held=0 ready=0 handed=0 read=0 deleted=0 off=0 live=0 entries=0 waiting=0 written=0",
-            0,
+            r#"user "Ada" => user 1
+user "Ben" => fault source"#,
+            12,
+            source,
+            3,
         ),
         (
             r#"user "Ada" => user 1
-send 1 one "a" "x" => bad line 2 column 8
 user "Ben""#,
-            2,
+            4_096,
+            sink,
+            4,
         ),
-        ("at => bad line 1 column 3", 2),
-        ("hello => bad line 1 column 1", 2),
-        (r#"user "Ada => bad line 1 column 6"#, 2),
     ];
-    for (worked, status) in rows {
-        expect_worked(&rt, worked, 4_096, &NEVER, status)?;
+    for (worked, piece, failing, status) in rows {
+        assert!(rt; 1 <= piece);
+        expect_worked(&rt, worked, piece, &failing, status)?;
     }
     Ok(())
 }
@@ -268,20 +182,6 @@ fn push_comment(bytes: &mut Vec<u8>, count: usize) -> Result<(), AllocError> {
     Ok(())
 }
 
-#[test]
-fn a_line_may_cross_pieces_and_have_131072_bytes(rt: HostRuntime) -> Result<(), Fail> {
-    for count in [4_090, 131_072] {
-        let mut script = Vec::new(rt.alloc());
-        push_comment(&mut script, count)?;
-        script.extend_from_slice(b"\nuser \"Ada\"\n")?;
-        expect_run(&rt, List::from(script), 4_096, &NEVER, b"user 1\n", 0)?;
-    }
-    let mut too_long = Vec::new(rt.alloc());
-    push_comment(&mut too_long, 131_073)?;
-    let written = b"bad line 1 column 131073\n";
-    expect_run(&rt, List::from(too_long), 4_096, &NEVER, written, 2)
-}
-
 // The most bytes that a script may have: comments, and a request without its line feed as the last ten.
 fn longest_script(alloc: Global) -> Result<Vec<u8>, AllocError> {
     let mut script = Vec::with_capacity(alloc, 67_108_865)?;
@@ -295,22 +195,14 @@ fn longest_script(alloc: Global) -> Result<Vec<u8>, AllocError> {
 }
 
 #[test]
-fn a_script_of_67108864_bytes_is_played_to_its_end(rt: HostRuntime) -> Result<(), Fail> {
+fn a_script_of_67108864_bytes_is_played_and_a_longer_one_is_not(
+    rt: HostRuntime,
+) -> Result<(), Fail> {
     let script = longest_script(rt.alloc())?;
     assert_eq!(rt; script.len(), 67_108_864);
-    expect_run(&rt, List::from(script), 4_096, &NEVER, b"user 1\n", 0)
-}
-
-#[test]
-fn a_script_of_67108865_bytes_is_too_long(rt: HostRuntime) -> Result<(), Fail> {
-    let mut script = longest_script(rt.alloc())?;
-    script.push(b'\n')?;
-    expect_run(
-        &rt,
-        List::from(script),
-        4_096,
-        &NEVER,
-        b"script too long\n",
-        9,
-    )
+    expect_run(&rt, List::from(script), 4_096, &NEVER, b"user 1\n", 0)?;
+    let mut longer = longest_script(rt.alloc())?;
+    longer.push(b'\n')?;
+    let written = b"script too long\n";
+    expect_run(&rt, List::from(longer), 4_096, &NEVER, written, 9)
 }
