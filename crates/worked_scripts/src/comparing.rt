@@ -1,18 +1,13 @@
 //! What a run wrote beside what it was to write.
 use crate::fault::Fault;
 use crate::playing::joined;
-use crate::script::{Placed, Run};
+use crate::script::Run;
 use std::alloc::{AllocError, Global};
 
 // What stands for a line that is not there.
 const NOTHING: &str = "nothing";
 
-fn difference(
-    alloc: Global,
-    row: usize,
-    wanted: &str,
-    written: &str,
-) -> Result<Fault, AllocError> {
+fn difference(alloc: Global, row: usize, wanted: &str, written: &str) -> Result<Fault, AllocError> {
     Ok(Fault::Differs {
         row,
         wanted: String::from_str(alloc, wanted)?,
@@ -24,21 +19,22 @@ fn difference(
 fn first_difference(alloc: Global, run: &Run, written: &str) -> Result<Fault, AllocError> {
     let mut row = run.row;
     let mut lines = written.split_inclusive('\n');
-    for Placed { row: place, text } in run.answers.iter() {
-        row = *place;
+    for answer in run.answers.iter() {
+        row = answer.row;
         let line = lines.next().unwrap_or(NOTHING);
-        if line.strip_suffix('\n') != Some(text.as_str()) {
-            return difference(alloc, row, text.as_str(), line);
+        if line.trim_end() != answer.text.as_str() {
+            return difference(alloc, row, answer.text.as_str(), line.trim_end());
         }
     }
-    difference(alloc, row, NOTHING, lines.next().unwrap_or(NOTHING))
+    let line = lines.next().unwrap_or(NOTHING);
+    difference(alloc, row, NOTHING, line.trim_end())
 }
 
 /// Compares what was written and the status with what the run is to write and to end with.
 pub fn compare(alloc: Global, run: &Run, written: &[u8], status: u8) -> Result<(), Fault> {
     let wanted = joined(alloc, run.answers.as_slice())?;
     if written != wanted.as_bytes() {
-        let written = str::from_utf8(written).unwrap_or("bytes that are no text");
+        let written = std::str::from_utf8(written).unwrap_or("bytes that are no text");
         return Err(first_difference(alloc, run, written)?);
     }
     if status != run.status {

@@ -1,4 +1,7 @@
 //! The counts behind each line of a script: the office's beside those that the journal gives slowly.
+ghost use Rattle.std.specs.Prelude.{IfOk};
+ghost use Rattle.chat_model.specs.Rows.{IsAscending};
+
 use crate::fault::Fault;
 use crate::playing::{Done, MANY, check_run, first_keeper, joined, run_lines};
 use crate::script::{Command, Placed, Run, Script};
@@ -74,7 +77,9 @@ fn by_account(
 }
 
 // What is kept. A call of the keeper that fails is made once more.
-fn load(keeper: MemoryKeeper) -> Result<Kept, Fault> {
+fn load(keeper: MemoryKeeper) -> Result<Kept, Fault>
+    ensures { IfOk result (λ kept. IsAscending kept.rows) }
+{
     let mut keeper = keeper;
     match keeper.load() {
         Ok(kept) => Ok(kept),
@@ -95,7 +100,7 @@ fn slow_line(alloc: Global, kept: &Kept) -> Result<Option<Text>, Fault> {
 
 // The last line that was written.
 fn last_line(written: &[u8]) -> &str {
-    match str::from_utf8(written) {
+    match std::str::from_utf8(written) {
         Ok(text) => text.split_inclusive('\n').last().unwrap_or(""),
         Err(_) => "",
     }
@@ -161,8 +166,9 @@ fn check_run_counts(
         return Ok(());
     }
     check_front(alloc, script, earlier, run.row, &[])?;
-    for (index, line) in lines.iter().enumerate() {
-        check_front(alloc, script, earlier, line.row, &lines[..=index])?;
+    for index in 0..lines.len() {
+        let row = lines[index].row;
+        check_front(alloc, script, earlier, row, &lines[..index + 1])?;
     }
     Ok(())
 }

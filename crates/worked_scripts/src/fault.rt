@@ -12,7 +12,9 @@ pub enum Fault {
     #[error("the file has no script")]
     NoScript,
     #[error("row {row}: this is no row of a worked script")]
-    BadRow { row: usize },
+    BadRow {
+        row: usize,
+    },
     #[error("row {row}: wanted '{wanted}', written '{written}'")]
     Differs {
         row: usize,
@@ -20,7 +22,11 @@ pub enum Fault {
         written: String,
     },
     #[error("row {row}: wanted status {wanted}, ended with {ended}")]
-    OtherStatus { row: usize, wanted: u8, ended: u8 },
+    OtherStatus {
+        row: usize,
+        wanted: u8,
+        ended: u8,
+    },
     #[error("row {row}: the office counts '{counted}', the journal '{slowly}'")]
     OtherCounts {
         row: usize,

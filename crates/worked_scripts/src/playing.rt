@@ -40,10 +40,7 @@ fn word_of(command: Command) -> &'static str {
 }
 
 /// The texts, each with a line feed.
-pub fn joined(
-    alloc: Global,
-    texts: &[Placed],
-) -> Result<String, AllocError> {
+pub fn joined(alloc: Global, texts: &[Placed]) -> Result<String, AllocError> {
     let mut whole = String::new(alloc);
     for placed in texts {
         whole.push_str(placed.text.as_str())?;

@@ -6,7 +6,10 @@ pub enum Row<'a> {
     /// `opening`: the lines that most scripts begin with.
     Opening,
     /// `dealt K LIST`: the deal of this number is dealt with these verdicts, and absorbed.
-    Dealt { deal: &'a str, verdicts: &'a str },
+    Dealt {
+        deal: &'a str,
+        verdicts: &'a str,
+    },
     /// `pushed N`: so many messages to Ben, each of which is dealt, absorbed and pushed to him.
     Pushed(u64),
     /// `ready N`: the line of counts at which so many notices are ready, and nothing else is counted.
