@@ -1,4 +1,6 @@
 //! What a run wrote beside what it was to write.
+ghost use Rattle.std.specs.Prelude.{◌≡◌, OnOk};
+
 use crate::fault::Fault;
 use crate::playing::joined;
 use crate::script::Run;
@@ -31,7 +33,9 @@ fn first_difference(alloc: Global, run: &Run, written: &str) -> Result<Fault, Al
 }
 
 /// Compares what was written and the status with what the run is to write and to end with.
-pub fn compare(alloc: Global, run: &Run, written: &[u8], status: u8) -> Result<(), Fault> {
+pub fn compare(alloc: Global, run: &Run, written: &[u8], status: u8) -> Result<(), Fault>
+    ensures { OnOk result (status ≡ run.now.status) }
+{
     let wanted = joined(alloc, run.answers.as_slice())?;
     if written != wanted.as_bytes() {
         let written = std::str::from_utf8(written).unwrap_or("bytes that are no text");
