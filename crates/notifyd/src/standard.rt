@@ -4,9 +4,11 @@ ghost use Rattle.std.specs.Prelude.{◌≡◌, ℕ, ◌≤◌, ◌<◌, IfOk, On
 ghost use Rattle.std.specs.Io.KnownBytes.{ReadConsumes, WriteAppends};
 ghost use Rattle.chat_model.specs.Counts.{HasRisen};
 
-use crate::{MemorySpool, Sink, Source, run};
 use chat_model::{Failed, List, Text};
 use keeper::MemoryKeeper;
+use script_play::run;
+use script_words::{Sink, Source};
+use spool_text::MemorySpool;
 use std::alloc::Global;
 use std::io::{ErrorKind, Read, Write};
 use std::process::ExitCode;

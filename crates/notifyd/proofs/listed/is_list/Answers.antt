@@ -1,6 +1,0 @@
-use Rattle.std.proofs.Common.{rules, tests, ◌∙◌}
-use Rattle.notifyd.proofs.ListedLemmas.{list_of-is_some}
-use Rattle.notifyd.proofs.listed.is_list.Goals as goal
-
-pub returns-else-eq : goal.returns-else-eq
-returns-else-eq c = c.are_numbers.ensures ∙ list_of-is_some c.args.word.now (search (rules, tests))

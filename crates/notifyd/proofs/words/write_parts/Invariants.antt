@@ -1,8 +1,0 @@
-use Rattle.std.proofs.Common.{◌≤◌, ◌++◌, take}
-use Rattle.notifyd.specs.Parts.{parts_text}
-use Rattle.notifyd.specs.Sink.{GoesOut}
-use Rattle.notifyd.proofs.words.write_parts.Given as goal
-
-abbrev pub invariant-loop-part : goal.invariant-loop-part
-invariant-loop-part g l =
-    GoesOut (l.initial.line ++ parts_text (take l.part-index l.parts)) (g.O.Sink.written l.initial.out) (g.O.Sink.written l.out) l.line × (g.O.Sink.faults l.initial.out ≤ g.O.Sink.faults l.out)

@@ -1,9 +1,0 @@
--- What a line leaves.
-use Rattle.std.specs.Prelude.{Option}
-use Rattle.notifyd.specs.World.{World}
-use Rattle.notifyd.specs.declared.reply.Reply.{Reply}
-
--- the world after a line, and its reply, where it has one
-pub record Step : Type 0 where
-  pub after : World
-  pub reply : Option Reply

@@ -1,0 +1,4 @@
+pub mod FieldLemmas
+pub mod ListedLemmas
+pub mod TextLemmas
+pub mod LineLemmas

@@ -1,0 +1,13 @@
+pub mod PlayLemmas
+pub mod PipeLemmas
+pub mod HubLemmas
+pub mod CutLemmas
+pub mod GoingLemmas
+pub mod ReadingLemmas
+pub mod PlayingLemmas
+pub mod KeptLemmas
+pub mod ShownLemmas
+pub mod RunLemmas
+pub mod CompleteLemmas
+pub mod CauseLemmas
+pub mod AuditLemmas

@@ -1,0 +1,16 @@
+pub mod Cut
+pub mod World
+pub mod Stepped
+pub mod HubStep
+pub mod AbsorbStep
+pub mod PushStep
+pub mod PipeLaw
+pub mod Step
+pub mod Mark
+pub mod Play
+pub mod Shown
+pub mod Status
+pub mod Ending
+pub mod Run
+pub mod Playing
+pub mod Going

@@ -1,0 +1,9 @@
+pub mod Waiting
+pub mod Pieces
+pub mod Tokens
+pub mod Parts
+pub mod Words
+pub mod HubWords
+pub mod PushWords
+pub mod Reply
+pub mod LastLine
