@@ -35,6 +35,18 @@ fn commit_one<K: Keeper>(keeper: &mut K, at: u64, change: RowChange) -> Result<(
     }
 }
 
+// Rows that are put before, behind and in the place of those that are there, and rows that are removed, one of which isn't
+// there.
+fn changes(alloc: Global) -> Result<List<RowChange>, OutOfMemory> {
+    let mut changes = List::new(alloc);
+    changes.push(RowChange::Put(message(alloc, 3, "third")?))?;
+    changes.push(RowChange::Put(message(alloc, 1, "first")?))?;
+    changes.push(RowChange::Put(message(alloc, 2, "edited")?))?;
+    changes.push(RowChange::Remove(RowKey::Message(MessageId(3))))?;
+    changes.push(RowChange::Remove(RowKey::Message(MessageId(4))))?;
+    Ok(changes)
+}
+
 #[test]
 fn a_new_keeper_keeps_nothing(rt: HostRuntime) -> Result<(), Fail> {
     let mut keeper = MemoryKeeper::new(rt.alloc(), List::new(rt.alloc()));
@@ -49,13 +61,7 @@ fn rows_are_put_in_order_replaced_and_removed(rt: HostRuntime) -> Result<(), Fai
     let alloc = rt.alloc();
     let mut keeper = MemoryKeeper::new(alloc, List::new(alloc));
     commit_one(&mut keeper, 1, RowChange::Put(message(alloc, 2, "second")?))?;
-    let changes = [
-        RowChange::Put(message(alloc, 3, "third")?),
-        RowChange::Put(message(alloc, 1, "first")?),
-        RowChange::Put(message(alloc, 2, "edited")?),
-        RowChange::Remove(RowKey::Message(MessageId(3))),
-        RowChange::Remove(RowKey::Message(MessageId(4))),
-    ];
+    let changes = changes(alloc)?;
     keeper.commit(&turn(2)?, changes.as_slice())?;
     let kept = keeper.load()?;
     let journal = kept.journal.into_vec();
