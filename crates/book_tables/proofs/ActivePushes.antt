@@ -13,13 +13,13 @@ use Rattle.chat_model.specs.declared.row.Row.{Row}
 use Rattle.chat_model.specs.declared.row.Row.TheVariants as row
 use Rattle.chat_model.specs.declared.row.RowKey.TheVariants as key
 use Rattle.chat_model.specs.declared.row.RowChange.TheVariants.{Put}
-use Rattle.chat_model.specs.declared.trigger.Way.TheVariants.{Push}
 use Rattle.chat_model.specs.Rows.{key_cmp, row_at}
 use Rattle.chat_model.proofs.Rows.{row_after_all}
-use Rattle.notice_ledger.specs.Past.Owed.{Notice, notices, account, is_handed}
+use Rattle.notice_ledger.specs.Past.Owed.{Notice, notices}
 use Rattle.notice_ledger.specs.Past.Pushes.{is_active}
 use Rattle.notice_ledger.specs.Past.Rows as ledger
 use Rattle.notice_ledger.proofs.ActiveRows.{active_row-at}
+use Rattle.notice_ledger.proofs.ActiveAfter.{is_push_active}
 use Rattle.book_tables.specs.declared.pushes.PushKey.{PushKey}
 use Rattle.book_tables.specs.Prepared.{active_row}
 use Rattle.book_tables.specs.Pushes.{has_push}
@@ -86,16 +86,16 @@ module _ (u : UserId) (m : MessageId) where
       by true e = refl
       by false e = e
 
-  -- the active pushes are those that were handed over
-  pub active-has : (j : List Stamped) → has_push (active_keys j) u m ≡ is_handed (account j u m Push)
+  -- a push is among the active ones where its notice is active
+  pub active-has : (j : List Stamped) → has_push (active_keys j) u m ≡ is_push_active j u m
   active-has j =
       sym (found_row (active_keys j))
-      ∙ (ap (λ rs. is_some (row_at (key.Active u m) rs)) (sym (active_rows-keys j)) ∙ (ap is_some (active_row-at j u m) ∙ by (is_handed (account j u m Push))))
+      ∙ (ap (λ rs. is_some (row_at (key.Active u m) rs)) (sym (active_rows-keys j)) ∙ (ap is_some (active_row-at j u m) ∙ by (is_push_active j u m)))
     where
       by : (b : Bool) → is_some (if b then Some (row.Active u m) else None) ≡ b
       by true = refl
       by false = refl
 
 -- the puts of their rows
-pub active_puts : (j : List Stamped) (u : UserId) (m : MessageId) → row_after_all (key.Active u m) (map Put (map active_row (active_keys j))) None ≡ cond (is_handed (account j u m Push)) (Some (row.Active u m)) None
+pub active_puts : (j : List Stamped) (u : UserId) (m : MessageId) → row_after_all (key.Active u m) (map Put (map active_row (active_keys j))) None ≡ cond (is_push_active j u m) (Some (row.Active u m)) None
 active_puts j u m = puts_have u m (active_keys j) None ∙ ap (λ b. cond b (Some (row.Active u m)) None) (active-has u m j)

@@ -18,14 +18,14 @@ use Rattle.notice_ledger.specs.InOrder.{is_ascending}
 use Rattle.notice_ledger.specs.declared.destination.Destination.{Destination}
 use Rattle.notice_ledger.specs.declared.destination.Destination.TheVariants as destination
 use Rattle.notice_ledger.specs.Past.Journal.{occurrence}
-use Rattle.notice_ledger.specs.Past.Values.{numbered, people, user_names, users, is_user, is_one_of, messages, SentMessage, is_to_topic, is_participant, policy}
+use Rattle.notice_ledger.specs.Past.Values.{numbered, people, user_names, users, is_user, is_one_of, messages, SentMessage, is_to_topic, takes_part_by, some_from, is_participant, policy}
 use Rattle.notice_ledger.specs.Past.Triggers.{goes_to, mentions_of, policy_for}
 use Rattle.notice_ledger.specs.Past.Owed.{owed_by}
 use Rattle.book_tables.specs.declared.tables.Message.{Message}
 use Rattle.book_tables.specs.declared.tables.Tables.{Tables}
 use Rattle.book_tables.specs.declared.topic_key.TopicKey.{TopicKey}
 use Rattle.book_tables.specs.Tables.{Holds, message_kept, in_flight, send_of, owed_user}
-use Rattle.book_tables.specs.Gathered.{topic_of, owed_there}
+use Rattle.book_tables.specs.Gathered.{topic_of, took_part_from, owed_there}
 use Rattle.book_tables.proofs.Numbered.{slice_get-past}
 use Rattle.book_tables.proofs.Following.{owed-none, owed-users}
 
@@ -138,19 +138,14 @@ module _ (t : Tables) (past : List Stamped) (holds : Holds t past) where
       from_zero [] = tt
       from_zero (v ∷ vs) = (omega arith, from_zero vs)
 
-  -- the senders of the messages to a topic take part in it
-  pub senders-take_part : (u : UserId) (channel : ChannelId) (topic : List ℕ) → is_one_of (map (λ (m : Message). m.sender) (filter (λ (m : Message). is_to_topic channel topic m.to) t.messages.items)) u ≡ is_participant past u channel topic
+  -- the senders of the messages to a topic that aren't deleted take part in it
+  pub senders-take_part : (u : UserId) (channel : ChannelId) (topic : List ℕ) → took_part_from t.deleted.items u channel topic 1 t.messages.items ≡ is_participant past u channel topic
   unfolding is_participant
-  senders-take_part u channel topic = ap (λ (ms : List Message). is_one_of (map (λ m. m.sender) (filter (λ m. is_to_topic channel topic m.to) ms)) u) holds.messages ∙ by (messages past)
+  senders-take_part u channel topic = ap (took_part_from t.deleted.items u channel topic 1) holds.messages ∙ by 1 (messages past)
     where
-      by : (ms : List SentMessage) → is_one_of (map (λ (m : Message). m.sender) (filter (λ (m : Message). is_to_topic channel topic m.to) (map message_kept ms))) u ≡ list_any (λ (m : SentMessage). m.sender.0 == u.0 && is_to_topic channel topic m.to) ms
-      by [] = refl
-      by (m ∷ ms) =
-          let rest = filter (λ (k : Message). is_to_topic channel topic k.to) (map message_kept ms) in
-          elim (is_to_topic channel topic m.to) as (λ b. is_one_of (map (λ (k : Message). k.sender) (cond b (message_kept m ∷ rest) rest)) u ≡ ((m.sender.0 == u.0 && b) || list_any (λ (k : SentMessage). k.sender.0 == u.0 && is_to_topic channel topic k.to) ms)) [
-            | true ↦ ap (λ b. m.sender.0 == u.0 || b) (by ms) ∙ ap (λ b. b || list_any (λ (k : SentMessage). k.sender.0 == u.0 && is_to_topic channel topic k.to) ms) (sym (and-true (m.sender.0 == u.0)))
-            | false ↦ by ms ∙ ap (λ b. b || list_any (λ (k : SentMessage). k.sender.0 == u.0 && is_to_topic channel topic k.to) ms) (sym (and-false (m.sender.0 == u.0)))
-          ]
+      by : (n : ℕ) (ms : List SentMessage) → took_part_from t.deleted.items u channel topic n (map message_kept ms) ≡ some_from (takes_part_by past u channel topic) n ms
+      by n [] = refl
+      by n (m ∷ ms) = (λ i. (m.sender.0 == u.0 && is_to_topic channel topic m.to && not (holds.deleted (record { 0 = n }) i)) || by (n + 1) ms i)
 
 -- the policy for the topic to which a message goes, read by its key
 pub policy_for-key : (past : List Stamped) (to : Destination) (u : UserId) (key : Option TopicKey) → key ≡ topic_of to → option_map_or (λ (k : TopicKey). policy past u k.channel k.topic) key Inherit ≡ policy_for past to u

@@ -1,11 +1,11 @@
 -- What an effect has to make of each table: what the event makes of what the table holds. And what an event of another kind
 -- leaves in each.
 use Rattle.std.proofs.Common.{add-zero, ◌≡◌, ℕ, zero, suc, ◌+◌, ◌<◌, ◌≤◌, Bool, true, false, ◌&&◌, ◌==◌, ◌||◌, cond, not, List, [], ◌∷◌, ◌++◌, length, map, refl, sym, ap, ◌∙◌, subst, arith, ⊎_elim, length-append}
-use Rattle.std.specs.Prelude.{sum_by, IsPermutation, ◌-◌, ◌^◌, min, Some, None, option_map, option_to_list, is_some, slice_get, unwrap_or, if◌then◌else◌}
+use Rattle.std.specs.Prelude.{sum_by, ◌-◌, ◌^◌, min, Option, Some, None, option_map, option_to_list, is_some, slice_get, unwrap_or, if◌then◌else◌}
 use Rattle.std.specs.Option.{option_map_or}
 use Rattle.std.specs.List.{AllByRecursion}
 use Rattle.std.proofs.lemmas.List.{length-map, append-nil}
-use Rattle.std.proofs.lemmas.Bool.Decides.{eqb_tells}
+use Rattle.std.proofs.lemmas.Bool.Decides.{nat_tests, eqb_tells}
 use Rattle.chat_model.specs.declared.event.Stamped.{Stamped}
 use Rattle.chat_model.specs.declared.event.Event.{Event}
 use Rattle.chat_model.specs.declared.event.Event.TheVariants.{Asked, PushTurn}
@@ -38,13 +38,11 @@ use Rattle.notice_ledger.specs.Past.Runs.{is_restart, start_count}
 use Rattle.notice_ledger.specs.Past.Due.{batch_rows}
 use Rattle.notice_ledger.specs.Past.Outbox.{outbox, entries_by}
 use Rattle.notice_ledger.specs.Past.Audit.{in_64_bits}
-use Rattle.notice_ledger.proofs.Audited.{handed_over, handed_over-append, item_count, switched_off, switched_off-append, cleared_live, cleared_live-append, is_turned}
+use Rattle.notice_ledger.proofs.Audited.{handed_over, handed_over-append, item_count, switched_off, switched_off-append, is_turned}
 use Rattle.notice_ledger.proofs.Lists.{filter_none}
 use Rattle.notice_ledger.proofs.Appended.{people-append, groups-append, is_member-append, channels-append, messages-append, subscribed-append, outbox-append, last_stamp-append}
-use Rattle.notice_ledger.proofs.Waiting.{waiting-pending}
 use Rattle.notice_ledger.proofs.Batches.{is_ready}
-use Rattle.notice_ledger.proofs.PushItems.{is_push_readied, items_added, items_by-last}
-use Rattle.notice_ledger.proofs.PushTurns.{is_handed-same}
+use Rattle.notice_ledger.proofs.PushItems.{items_added, items_by-last}
 use Rattle.notice_ledger.proofs.PushesWait.{PushesWait, waiting_items-other}
 use Rattle.notice_ledger.proofs.Turned.{IsTurnReady}
 use Rattle.notice_ledger.proofs.DealLemmas.{deals-append, start_count-append}
@@ -60,12 +58,31 @@ use Rattle.book_tables.specs.Batched.{period_in, BatchesAfter}
 use Rattle.book_tables.specs.Tables.{Holds, HoldBatches, message_kept, in_flight}
 use Rattle.book_tables.specs.Pushes.{item_of, has_push}
 use Rattle.book_tables.specs.Prepared.{items_made}
-use Rattle.book_tables.specs.Applied.{starts_after, names_after, bots_after, preferences_after, groups_after, members_after, channels_after, subscribers_after, messages_after, waiting_after, live_after, items_after, active_after, deals_after, outbox_after, handed_after, off_after, IsApplied, HoldTheSame}
+use Rattle.book_tables.specs.Applied.{starts_after, names_after, bots_after, preferences_after, groups_after, members_after, channels_after, subscribers_after, messages_after, waiting_after, cleared_after, items_after, active_after, addressees_after, deleted_after, deals_after, outbox_after, handed_after, off_after, read_after, gone_after, written_after, IsApplied}
 use Rattle.book_tables.proofs.Numbered.{changed-long}
 use Rattle.book_tables.proofs.BatchesAfter.{BatchesAgree, batches_left}
-use Rattle.book_tables.proofs.Cancelled.{none_cleared_now}
-use Rattle.book_tables.proofs.Moves.{IsNoTurn, step, kept-append, never_turn, no_request, steps_left}
-use Rattle.book_tables.proofs.RowsAfter.{all_kept}
+use Rattle.book_tables.proofs.Moves.{IsNoTurn, step, kept-append, never_turn, no_request, steps_left, bars_none}
+use Rattle.book_tables.proofs.Kept.{all_kept, kept-stays, holds-kept}
+use Rattle.book_tables.proofs.ClearedAfter.{all_cleared, cleared-left}
+use Rattle.book_tables.proofs.ActivesAfter.{all_active, active-left}
+use Rattle.book_tables.specs.Receipts.{is_marked}
+use Rattle.std.specs.Option.{option_or}
+use Rattle.std.proofs.lemmas.List.Sums.{length-filter}
+use Rattle.chat_model.specs.declared.row.Cause.{Cause}
+use Rattle.chat_model.specs.declared.row.Cause.TheVariants.{Read, Deleted, SwitchedOff}
+use Rattle.notice_ledger.specs.declared.accounts.Account.TheVariants.{LiveQueue, Cancelled}
+use Rattle.notice_ledger.specs.Past.Audit.{same_cause, same_account, owed_with, removals_written}
+use Rattle.notice_ledger.specs.Past.Lawful.{may_stand}
+use Rattle.notice_ledger.specs.Past.Owed.{Notice, notices, is_pending, account_of}
+use Rattle.notice_ledger.specs.Past.Triggers.{goes_to}
+use Rattle.notice_ledger.specs.Past.Values.{SentMessage, message, is_deleted, reads, deletes}
+use Rattle.notice_ledger.proofs.ActiveAfter.{is_removal_of, no_removal}
+use Rattle.notice_ledger.proofs.Appended.{message-append, is_deleted-append}
+use Rattle.notice_ledger.proofs.Counted.{is_cancelled_now, owed_with-cancelled}
+use Rattle.notice_ledger.proofs.PushItems.{items_added-none}
+use Rattle.notice_ledger.proofs.RemovalCounts.{is_removed_by, removals_written-append, none-removed}
+use Rattle.notice_ledger.proofs.Revoked.{removals_added, removals_added-none}
+use Rattle.notice_ledger.proofs.Standing.{is_turn, is_barring, barring, barring-none}
 use Rattle.book_tables.proofs.PreferenceLemmas.{at_number, preferred_in-list, preferred_by-left}
 use Rattle.book_tables.proofs.UserSets.{is_in, has_in-sets, is_in-added, is_in-changed}
 use Rattle.book_tables.proofs.SetSizes.{are_changed, are_user_sets}
@@ -122,46 +139,6 @@ next_number n = omega arith
 pub one_longer : {A : Type 0} (xs : List A) (x : A) → length (xs ++ x ∷ []) ≡ length xs + 1
 one_longer xs x = length-append xs (x ∷ [])
 
--- batches of the same users hold the same
-same_batches : (old new : Batches) (j : List Stamped) → new.batches ≡ old.batches → HoldBatches old j → HoldBatches new j
-same_batches old new j same held = record {
-  rows = λ u. subst (IsPermutation (map (λ n. n.number) (batch_rows j u))) (sym (rows u)) (held.rows u);
-  due = λ u. dues u ∙ held.due u;
-}
-  where
-    rows : (u : UserId) → rows_of new u ≡ rows_of old u
-    rows u = ap (λ (bs : finite.FinMap nat_cmp Batch). option_map_or (λ (b : Batch). b.rows) (finite.get bs u.0) []) same
-
-    dues : (u : UserId) → due_of new u ≡ due_of old u
-    dues u = ap (λ (bs : finite.FinMap nat_cmp Batch). option_map (λ (b : Batch). b.due) (finite.get bs u.0)) same
-
--- tables that hold the same stand for the same journal
-pub same_stands : (old new : Tables) (j : List Stamped) → Holds old j → HoldTheSame old new → Holds new j
-same_stands old new j stands same = record {
-  last = same.last ∙ stands.last;
-  starts = same.starts ∙ stands.starts;
-  names = same.names ∙ stands.names;
-  bots = same.bots ∙ stands.bots;
-  preferences = λ u. preferred_in-list new.preferences.items u.0 ∙ (ap (λ ps. at_number ps u.0) same.preferences ∙ (sym (preferred_in-list old.preferences.items u.0) ∙ stands.preferences u));
-  preferences_long = sym (length-map new.preferences.items preferred) ∙ (ap length same.preferences ∙ (length-map old.preferences.items preferred ∙ stands.preferences_long));
-  members = λ g u. has_in-sets new.members.items g.0 u ∙ (ap (λ sets. is_in sets g.0 u) same.members ∙ (sym (has_in-sets old.members.items g.0 u) ∙ stands.members g u));
-  member_sets = are_user_sets (length (groups j)) (length (people j)) new.members.items (map users_in old.members.items) same.members (length-map old.members.items users_in ∙ stands.member_sets.count) stands.member_sets.sets;
-  groups = same.groups ∙ stands.groups;
-  subscribers = λ c u. has_in-sets new.subscribers.items c.0 u ∙ (ap (λ sets. is_in sets c.0 u) same.subscribers ∙ (sym (has_in-sets old.subscribers.items c.0 u) ∙ stands.subscribers c u));
-  subscriber_sets = are_user_sets (length (channels j)) (length (people j)) new.subscribers.items (map users_in old.subscribers.items) same.subscribers (length-map old.subscribers.items users_in ∙ stands.subscriber_sets.count) stands.subscriber_sets.sets;
-  channels = same.channels ∙ stands.channels;
-  messages = same.messages ∙ stands.messages;
-  waiting = same.waiting ∙ stands.waiting;
-  batches = same_batches old.batches new.batches j same.batches stands.batches;
-  items = same.items ∙ stands.items;
-  active = λ u m. ap (λ (ps : List PushKey). has_push ps u m) same.active ∙ stands.active u m;
-  deals = same.deals ∙ stands.deals;
-  outbox = same.outbox ∙ stands.outbox;
-  handed = same.handed ∙ stands.handed;
-  off = same.off ∙ stands.off;
-  live = same.live ∙ stands.live;
-}
-
 -- ---- what an effect has to make of each table: what the event makes of what the table holds
 
 -- the sets that stand by the numbers of groups or channels: who is in each, how many there are, and of which users
@@ -210,22 +187,38 @@ pub record ChannelsAgree (j : List Stamped) (s : Stamped) (e : Effect) : Type 0 
   pub named : channels (j ++ s ∷ []) ≡ channels_after e (channels j)
   pub sets : SetsAgree (λ (c : ChannelId). c.0) (λ c u. subscribed j u c) (λ c u. subscribed (j ++ s ∷ []) u c) (length (channels j)) (length (channels (j ++ s ∷ []))) (length (people j)) (length (people (j ++ s ∷ []))) (subscribers_after e)
 
+-- whether a message goes to a user, where there is the message
+abbrev pub goes : List Stamped → MessageId → UserId → Bool
+goes j m u = option_map_or (λ sent. goes_to sent.past sent.to u) (message j m) false
+
+-- the messages, to whom each goes and which are deleted, and the deals
 pub record MessagesAgree (j : List Stamped) (s : Stamped) (e : Effect) : Type 0 where
   pub sent : map message_kept (messages (j ++ s ∷ [])) ≡ messages_after e (map message_kept (messages j))
+  pub addressed : (sets : List (List UserId)) → length sets ≡ length (messages j) → ((m : MessageId) (u : UserId) → is_in sets m.0 u ≡ goes j m u) → (m : MessageId) (u : UserId) → is_in (addressees_after e sets) m.0 u ≡ goes (j ++ s ∷ []) m u
+  pub addressed_long : (sets : List (List UserId)) → length sets ≡ length (messages j) → length (addressees_after e sets) ≡ length (messages (j ++ s ∷ []))
+  pub marked : (marks : List Bool) → length marks ≡ length (messages j) → ((m : MessageId) → is_marked marks m.0 ≡ is_deleted j m) → (m : MessageId) → is_marked (deleted_after e marks) m.0 ≡ is_deleted (j ++ s ∷ []) m
+  pub marked_long : (marks : List Bool) → length marks ≡ length (messages j) → length (deleted_after e marks) ≡ length (messages (j ++ s ∷ []))
   pub dealt : deals (j ++ s ∷ []) ≡ deals_after e (deals j)
 
--- what waits, what was handed, what was switched off and what was cleared
+-- how many notices were cancelled for a cause
+abbrev pub cancelled_for : Cause → List Stamped → ℕ
+cancelled_for cause j = owed_with j (Cancelled cause)
+
+-- what waits, what a live queue cleared, what was handed over, and how many were cancelled for which cause
 pub record NoticesAgree (j : List Stamped) (s : Stamped) (e : Effect) : Type 0 where
   pub wait : all_kept (j ++ s ∷ []) ≡ waiting_after e (all_kept j)
+  pub cleared : all_cleared (j ++ s ∷ []) ≡ cleared_after e (all_kept j) (all_cleared j)
   pub entries : outbox (j ++ s ∷ []) ≡ outbox_after e (outbox j)
   pub handed : in_64_bits (handed_over (j ++ s ∷ [])) ≡ handed_after e (in_64_bits (handed_over j))
   pub off : in_64_bits (switched_off (j ++ s ∷ [])) ≡ off_after e (in_64_bits (switched_off j))
-  pub live : in_64_bits (cleared_live (j ++ s ∷ [])) ≡ live_after e (all_kept j) (in_64_bits (cleared_live j))
+  pub read : in_64_bits (cancelled_for Read (j ++ s ∷ [])) ≡ read_after e (in_64_bits (cancelled_for Read j))
+  pub gone : in_64_bits (cancelled_for Deleted (j ++ s ∷ [])) ≡ gone_after e (in_64_bits (cancelled_for Deleted j))
 
--- the items that wait, and the pushes that were handed over
+-- the items that wait, the active pushes, and how many removals were written
 pub record PushesAgree (j : List Stamped) (s : Stamped) (e : Effect) : Type 0 where
   pub items : waiting_items (j ++ s ∷ []) ≡ items_after e (waiting_items j)
-  pub active : (ps : List PushKey) → ((u : UserId) (m : MessageId) → has_push ps u m ≡ is_handed (account j u m Push)) → (u : UserId) (m : MessageId) → has_push (active_after e ps) u m ≡ is_handed (account (j ++ s ∷ []) u m Push)
+  pub active : all_active (j ++ s ∷ []) ≡ active_after e (all_kept j) (all_active j)
+  pub written : in_64_bits (removals_written (j ++ s ∷ [])) ≡ written_after e (all_active j) (in_64_bits (removals_written j))
 
 -- the effect makes of all tables what the event makes of them
 pub record Agrees (j : List Stamped) (s : Stamped) (e : Effect) : Type 0 where
@@ -241,7 +234,8 @@ pub record Agrees (j : List Stamped) (s : Stamped) (e : Effect) : Type 0 where
 -- tables to which such an effect was made stand for the journal with the event
 pub agreed : (old new : Tables) (j : List Stamped) → Holds old j → (s : Stamped) (e : Effect) → Agrees j s e → IsApplied old new s.at e → new.last ≡ s.at → Holds new (j ++ s ∷ [])
 agreed old new j stands s e agrees applied last =
-    let kept : new.waiting.items ≡ all_kept (j ++ s ∷ []) = applied.waiting ∙ (ap (waiting_after e) stands.waiting ∙ sym agrees.of_notices.wait) in
+    let kept_before = holds-kept old j stands in
+    let kept : new.waiting.items ≡ all_kept (j ++ s ∷ []) = applied.waiting ∙ (ap (waiting_after e) kept_before ∙ sym agrees.of_notices.wait) in
     let preferred_so : (u : UserId) → preferred_in new.preferences.items u.0 ≡ preferred_by (j ++ s ∷ []) u =
     λ u.
     preferred_in-list new.preferences.items u.0
@@ -270,17 +264,27 @@ agreed old new j stands s e agrees applied last =
           ∙ (ap (λ sets. is_in sets c.0 u) applied.subscribers ∙ subscribers.found in_channels channels_long (λ d v. sym (has_in-sets old.subscribers.items d.0 v) ∙ stands.subscribers d v) c u);
       subscriber_sets = are_user_sets (length (channels (j ++ s ∷ []))) (length (people (j ++ s ∷ []))) new.subscribers.items (subscribers_after e in_channels) applied.subscribers (subscribers.count in_channels channels_long) (subscribers.are in_channels stands.subscriber_sets.sets);
       channels = applied.channels ∙ (ap (channels_after e) stands.channels ∙ sym agrees.of_channels.named);
+      addressees = λ m u.
+          has_in-sets new.addressees.items m.0 u
+          ∙ (ap (λ sets. is_in sets m.0 u) applied.addressees
+          ∙ agrees.of_messages.addressed (map users_in old.addressees.items) (length-map old.addressees.items users_in ∙ stands.addressees_long) (λ k v. sym (has_in-sets old.addressees.items k.0 v) ∙ stands.addressees k v) m u);
+      addressees_long = sym (length-map new.addressees.items users_in) ∙ (ap length applied.addressees ∙ agrees.of_messages.addressed_long (map users_in old.addressees.items) (length-map old.addressees.items users_in ∙ stands.addressees_long));
+      deleted = λ m. ap (λ marks. is_marked marks m.0) applied.deleted ∙ agrees.of_messages.marked old.deleted.items stands.deleted_long stands.deleted m;
+      deleted_long = ap length applied.deleted ∙ agrees.of_messages.marked_long old.deleted.items stands.deleted_long;
       messages = applied.messages ∙ (ap (messages_after e) stands.messages ∙ sym agrees.of_messages.sent);
-      waiting = kept;
+      waiting = kept ∙ kept-stays (j ++ s ∷ []);
+      cleared = applied.cleared ∙ ((λ i. cleared_after e (kept_before i) (stands.cleared i)) ∙ sym agrees.of_notices.cleared);
       batches = agrees.of_batches.after (period_in old.preferences.items) (period_in new.preferences.items) new.waiting.items old.batches new.batches
           (λ u. ap (λ (p : Preferred). p.settings.period) (stands.preferences u)) (λ u. ap (λ (p : Preferred). p.settings.period) (preferred_so u)) kept stands.batches applied.batches;
       items = applied.items ∙ (ap (items_after e) stands.items ∙ sym agrees.of_pushes.items);
-      active = λ u m. ap (λ (ps : List PushKey). has_push ps u m) applied.active ∙ agrees.of_pushes.active old.active.items stands.active u m;
+      active = applied.active ∙ ((λ i. active_after e (kept_before i) (stands.active i)) ∙ sym agrees.of_pushes.active);
       deals = applied.deals ∙ (ap (deals_after e) stands.deals ∙ sym agrees.of_messages.dealt);
       outbox = applied.outbox ∙ (ap (outbox_after e) stands.outbox ∙ sym agrees.of_notices.entries);
       handed = applied.handed ∙ (ap (handed_after e) stands.handed ∙ sym agrees.of_notices.handed);
       off = applied.off ∙ (ap (off_after e) stands.off ∙ sym agrees.of_notices.off);
-      live = applied.live ∙ ((λ i. live_after e (stands.waiting i) (stands.live i)) ∙ sym agrees.of_notices.live);
+      read = applied.read ∙ (ap (read_after e) stands.read ∙ sym agrees.of_notices.read);
+      gone = applied.gone ∙ (ap (gone_after e) stands.gone ∙ sym agrees.of_notices.gone);
+      written = applied.written ∙ ((λ i. written_after e (stands.active i) (stands.written i)) ∙ sym agrees.of_pushes.written);
     }
 
 -- a count at the end of 64 bits stands still
@@ -291,13 +295,19 @@ or-false false = refl
 pub added : (n m : ℕ) → min (min n (2 ^ 64 - 1) + m) (2 ^ 64 - 1) ≡ min (n + m) (2 ^ 64 - 1)
 added n m = omega arith
 
--- an event that is nothing to a notice that waits: no turn, and it makes none ready, clears none and absorbs no deal
+-- an event that is nothing to a notice that waits: no turn, and it makes none ready, clears none, absorbs no deal, and bars none
 pub record IsCalm (s : Stamped) : Type 0 where
   pub other : is_push_turn s.event ≡ false
   pub never : IsNoTurn s.event
   pub not_ready : (u : UserId) (k : DealNo) (online : Bool) → readies u k online s.event ≡ false
   pub not_cleared : (u : UserId) (k : DealNo) → clears u k s.event ≡ false
   pub not_dealt : (k : DealNo) → absorbs (is_dealt k) s.event ≡ false
+  pub no_read : (u : UserId) (m : MessageId) → reads u m s.event ≡ false
+  pub no_deletion : (m : MessageId) → deletes m s.event ≡ false
+
+-- an event that is no read and no deletion bars none
+pub unbarring : (s : Stamped) → ((u : UserId) (m : MessageId) → reads u m s.event ≡ false) → ((m : MessageId) → deletes m s.event ≡ false) → (n : Notice) → is_barring s n ≡ false
+unbarring s no_read no_deletion n = (λ i. no_read n.user n.number i || no_deletion n.number i)
 
 -- an event that is no push turn is none of a notice that isn't ready
 turn_other : (j : List Stamped) (e : Event) → is_push_turn e ≡ false → IsTurnReady j e
@@ -351,9 +361,17 @@ module _ (j : List Stamped) (s : Stamped) (e : Effect) where
         (λ c u. subscribed-append j s u c ∙ ap (λ o. unwrap_or o (subscribed j u c)) (no_subscription u c)) (ap length (same_channels no_channel)) kept;
   }
 
-  pub messages_left : message_of (occurrence j s) ≡ None → ((ms : List Message) → messages_after e ms ≡ ms) → ((ds : List Deal) → deals_after e ds ≡ ds) → MessagesAgree j s e
-  messages_left none same_messages same_deals = record {
-    sent = ap (map message_kept) (messages-append j s ∙ (ap (λ o. messages j ++ option_to_list o) none ∙ append-nil (messages j))) ∙ sym (same_messages (map message_kept (messages j)));
+  pub same_messages : message_of (occurrence j s) ≡ None → messages (j ++ s ∷ []) ≡ messages j
+  same_messages none = messages-append j s ∙ (ap (λ o. messages j ++ option_to_list o) none ∙ append-nil (messages j))
+
+  pub messages_left : message_of (occurrence j s) ≡ None → ((ms : List Message) → messages_after e ms ≡ ms) → ((ds : List Deal) → deals_after e ds ≡ ds) → ((sets : List (List UserId)) → addressees_after e sets ≡ sets)
+      → ((m : MessageId) → deletes m s.event ≡ false) → ((marks : List Bool) → deleted_after e marks ≡ marks) → MessagesAgree j s e
+  messages_left none same_sent same_deals same_addressees no_deletion same_marks = record {
+    sent = ap (map message_kept) (same_messages none) ∙ sym (same_sent (map message_kept (messages j)));
+    addressed = λ sets long is m u. ap (λ all. is_in all m.0 u) (same_addressees sets) ∙ (is m u ∙ sym (ap (λ ms. option_map_or (λ (sent : SentMessage). goes_to sent.past sent.to u) (numbered m.0 ms) false) (same_messages none)));
+    addressed_long = λ sets long. ap length (same_addressees sets) ∙ (long ∙ ap length (sym (same_messages none)));
+    marked = λ marks long is m. ap (λ all. is_marked all m.0) (same_marks marks) ∙ (is m ∙ sym (is_deleted-append j s m ∙ (ap (λ b. is_deleted j m || b) (no_deletion m) ∙ or-false (is_deleted j m))));
+    marked_long = λ marks long. ap length (same_marks marks) ∙ (long ∙ ap length (sym (same_messages none)));
     dealt = deals-append j s ∙ (ap (λ o. deals j ++ option_to_list (option_map (λ m. deal_of (occurrence j s)) o)) none ∙ (append-nil (deals j) ∙ sym (same_deals (deals j))));
   }
 
@@ -371,31 +389,38 @@ module _ (j : List Stamped) (s : Stamped) (e : Effect) where
       let turned = ap length (filter_none (is_turned j s) (λ n. ap (λ b. is_ready j n && b) (never_turn s.event never n.user n.number n.way) ∙ and-false (is_ready j n)) (waiting j)) in
       omega (arith, all, no_entry, turned)
 
-  -- nothing is cleared
-  pub none_cleared : ((u : UserId) (k : DealNo) → clears u k s.event ≡ false) → cleared_live (j ++ s ∷ []) ≡ cleared_live j
-  none_cleared not_cleared =
-      let all = cleared_live-append j s in let cleared = none_cleared_now j s not_cleared (waiting j) (waiting-pending j) in
-      omega (arith, all, cleared)
+  -- nothing is cancelled for a cause of a bar
+  pub none_cancelled : ((n : Notice) → is_barring s n ≡ false) → (cause : Cause) → same_cause SwitchedOff cause ≡ false → cancelled_for cause (j ++ s ∷ []) ≡ cancelled_for cause j
+  none_cancelled not_barring cause other =
+      let all = owed_with-cancelled j s cause other in
+      let none = sym (length-filter (is_cancelled_now j s cause) (notices j)) ∙ ap length (filter_none (is_cancelled_now j s cause)
+      (λ n. ap (λ (b : Option Cause). option_map_or (same_cause cause) b false && ((is_pending (account_of j n) && not (is_turn s n)) || same_account (account_of j n) LiveQueue)) (barring-none j s n (not_barring n))) (notices j)) in
+      all ∙ (ap (λ k. cancelled_for cause j + k) none ∙ add-zero (cancelled_for cause j))
 
   -- what waits after an event that owes nothing
   pub all_moved : owed_by (occurrence j s) ≡ [] → all_kept (j ++ s ∷ []) ≡ filter_map (step s) (all_kept j)
   all_moved none = kept-append j s ∙ (ap (λ ns. filter_map (step s) (all_kept j) ++ map in_flight ns) none ∙ append-nil (filter_map (step s) (all_kept j)))
 
-  -- an event that owes nothing, is no turn and clears nothing
-  pub notices_moved : is_push_turn s.event ≡ false → IsNoTurn s.event → ((u : UserId) (k : DealNo) → clears u k s.event ≡ false) → owed_by (occurrence j s) ≡ [] → entries_by j s.at s.event ≡ []
-      → ((ws : List Waiting) → waiting_after e ws ≡ filter_map (step s) ws) → ((es : List Entry) → outbox_after e es ≡ es) → ((n : ℕ) → handed_after e n ≡ n) → ((n : ℕ) → off_after e n ≡ n) → ((ws : List Waiting) (n : ℕ) → live_after e ws n ≡ n) → NoticesAgree j s e
-  notices_moved other never not_cleared none no_entry moved_so same_outbox same_handed same_off same_live = record {
+  -- an event that owes nothing, is no turn, clears nothing and bars nothing
+  pub notices_moved : is_push_turn s.event ≡ false → IsNoTurn s.event → ((u : UserId) (k : DealNo) → clears u k s.event ≡ false) → ((n : Notice) → is_barring s n ≡ false) → owed_by (occurrence j s) ≡ [] → entries_by j s.at s.event ≡ []
+      → ((ws : List Waiting) → waiting_after e ws ≡ filter_map (step s) ws) → ((es : List Entry) → outbox_after e es ≡ es) → ((n : ℕ) → handed_after e n ≡ n) → ((n : ℕ) → off_after e n ≡ n)
+      → ((ws vs : List Waiting) → cleared_after e ws vs ≡ vs) → ((n : ℕ) → read_after e n ≡ n) → ((n : ℕ) → gone_after e n ≡ n) → NoticesAgree j s e
+  notices_moved other never not_cleared not_barring none no_entry moved_so same_outbox same_handed same_off same_cleared same_read same_gone = record {
     wait = all_moved none ∙ sym (moved_so (all_kept j));
+    cleared = cleared-left j s not_cleared not_barring ∙ sym (same_cleared (all_kept j) (all_cleared j));
     entries = outbox-append j s ∙ (ap (λ es. outbox j ++ es) no_entry ∙ (append-nil (outbox j) ∙ sym (same_outbox (outbox j))));
     handed = ap in_64_bits (none_handed other no_entry) ∙ sym (same_handed (in_64_bits (handed_over j)));
     off = ap in_64_bits (none_off other never no_entry) ∙ sym (same_off (in_64_bits (switched_off j)));
-    live = ap in_64_bits (none_cleared not_cleared) ∙ sym (same_live (all_kept j) (in_64_bits (cleared_live j)));
+    read = ap in_64_bits (none_cancelled not_barring Read refl) ∙ sym (same_read (in_64_bits (cancelled_for Read j)));
+    gone = ap in_64_bits (none_cancelled not_barring Deleted refl) ∙ sym (same_gone (in_64_bits (cancelled_for Deleted j)));
   }
 
   pub notices_left : IsCalm s → owed_by (occurrence j s) ≡ [] → entries_by j s.at s.event ≡ []
-      → ((ws : List Waiting) → waiting_after e ws ≡ ws) → ((es : List Entry) → outbox_after e es ≡ es) → ((n : ℕ) → handed_after e n ≡ n) → ((n : ℕ) → off_after e n ≡ n) → ((ws : List Waiting) (n : ℕ) → live_after e ws n ≡ n) → NoticesAgree j s e
-  notices_left calm none no_entry same_waiting same_outbox same_handed same_off same_live =
-      notices_moved calm.other calm.never calm.not_cleared none no_entry (λ ws. same_waiting ws ∙ sym (steps_left s calm.never calm.not_ready calm.not_cleared calm.not_dealt ws)) same_outbox same_handed same_off same_live
+      → ((ws : List Waiting) → waiting_after e ws ≡ ws) → ((es : List Entry) → outbox_after e es ≡ es) → ((n : ℕ) → handed_after e n ≡ n) → ((n : ℕ) → off_after e n ≡ n)
+      → ((ws vs : List Waiting) → cleared_after e ws vs ≡ vs) → ((n : ℕ) → read_after e n ≡ n) → ((n : ℕ) → gone_after e n ≡ n) → NoticesAgree j s e
+  notices_left calm none no_entry same_waiting same_outbox same_handed same_off same_cleared same_read same_gone =
+      notices_moved calm.other calm.never calm.not_cleared (unbarring s calm.no_read calm.no_deletion) none no_entry
+      (λ ws. same_waiting ws ∙ sym (steps_left s calm.never (bars_none s calm.no_read calm.no_deletion) calm.not_ready calm.not_cleared calm.not_dealt ws)) same_outbox same_handed same_off same_cleared same_read same_gone
 
   -- no period changes
   pub same_period : ((u : UserId) → setting_change u s.event ≡ None) → (u : UserId) → (settings (j ++ s ∷ []) u).period ≡ (settings j u).period
@@ -404,33 +429,82 @@ module _ (j : List Stamped) (s : Stamped) (e : Effect) where
   pub batches_calm : IsCalm s → ((u : UserId) → setting_change u s.event ≡ None) → ((p q : UserId → ℕ) (ws : List Waiting) (old new : Batches) → BatchesAfter p q ws s.at e old new → new ≡ old) → BatchesAgree j s e
   batches_calm calm no_setting stays = batches_left j s e calm.never.mail calm.not_ready (same_period no_setting) stays
 
-module _ (j : List Stamped) (s : Stamped) (e : Effect) (waits : PushesWait j) where
-  -- an event that makes nothing ready makes no item
-  pub none_added : ((u : UserId) (k : DealNo) (online : Bool) → readies u k online s.event ≡ false) → items_added j s ≡ []
-  none_added not_ready =
-      ap (λ ns. map notify (by_user ns))
-      (filter_none (is_push_readied j s) (λ n. ap (λ b. same_way n.way Push && (not (is_ready j n) && b)) (not_ready n.user n.deal (pushes_online n)) ∙ (ap (λ b. same_way n.way Push && b) (and-false (not (is_ready j n))) ∙ and-false (same_way n.way Push))) (waiting j))
+-- a turn that isn't of a push writes no removal
+pub none_written : (j : List Stamped) (s : Stamped) (waits : PushesWait j) → may_stand j s.at s.event ≡ true → ((u : UserId) (m : MessageId) → is_removal_of u m s.event ≡ false) → removals_written (j ++ s ∷ []) ≡ removals_written j
+none_written j s waits may none =
+    removals_written-append j s waits may ∙ (ap (λ k. removals_written j + k) (none-removed j s.event none) ∙ add-zero (removals_written j))
 
-  active_same : is_push_turn s.event ≡ false → ((ps : List PushKey) → active_after e ps ≡ ps)
-      → (ps : List PushKey) → ((u : UserId) (m : MessageId) → has_push ps u m ≡ is_handed (account j u m Push)) → (u : UserId) (m : MessageId) → has_push (active_after e ps) u m ≡ is_handed (account (j ++ s ∷ []) u m Push)
-  active_same other same_active ps so u m = ap (λ (qs : List PushKey). has_push qs u m) (same_active ps) ∙ (so u m ∙ sym (is_handed-same j s u m other))
+module _ (j : List Stamped) (s : Stamped) (e : Effect) (waits : PushesWait j) (may : may_stand j s.at s.event ≡ true) where
+  -- an event that makes nothing ready and bars nothing makes no item
+  pub none_added : ((u : UserId) (k : DealNo) (online : Bool) → readies u k online s.event ≡ false) → ((n : Notice) → is_barring s n ≡ false) → items_added j s ++ removals_added j s ≡ []
+  none_added not_ready not_barring =
+      (λ i. items_added-none j s (λ n. not_ready n.user n.deal (pushes_online n)) i ++ removals_added-none j s (λ n. barring-none j s n (not_barring n)) i)
 
-  pub pushes_left : is_push_turn s.event ≡ false → ((u : UserId) (k : DealNo) (online : Bool) → readies u k online s.event ≡ false) → ((is : List PushItem) → items_after e is ≡ is) → ((ps : List PushKey) → active_after e ps ≡ ps) → PushesAgree j s e
-  pushes_left other not_ready same_items same_active = record {
-    items = waiting_items-other j s waits other ∙ (ap (λ is. waiting_items j ++ is) (none_added not_ready) ∙ (append-nil (waiting_items j) ∙ sym (same_items (waiting_items j))));
-    active = active_same other same_active;
+  pub pushes_left : is_push_turn s.event ≡ false → ((u : UserId) (k : DealNo) (online : Bool) → readies u k online s.event ≡ false) → ((n : Notice) → is_barring s n ≡ false)
+      → ((is : List PushItem) → items_after e is ≡ is) → ((ws vs : List Waiting) → active_after e ws vs ≡ vs) → ((vs : List Waiting) (n : ℕ) → written_after e vs n ≡ n) → PushesAgree j s e
+  pushes_left other not_ready not_barring same_items same_active same_written = record {
+    items = waiting_items-other j s waits other ∙ (ap (λ is. waiting_items j ++ is) (none_added not_ready not_barring) ∙ (append-nil (waiting_items j) ∙ sym (same_items (waiting_items j))));
+    active = active-left j s waits may other not_barring ∙ sym (same_active (all_kept j) (all_active j));
+    written = ap in_64_bits (none_written j s waits may (λ u m. no_removal u m s.event other)) ∙ sym (same_written (all_active j) (in_64_bits (removals_written j)));
   }
 
   -- an event that makes notices ready
-  pub pushes_readied : is_push_turn s.event ≡ false → (pushes : List PushKey) → map item_of pushes ≡ items_made j s → ((is : List PushItem) → items_after e is ≡ is ++ map item_of pushes) → ((ps : List PushKey) → active_after e ps ≡ ps) → PushesAgree j s e
-  pushes_readied other pushes fits more same_active = record {
+  pub pushes_readied : is_push_turn s.event ≡ false → ((n : Notice) → is_barring s n ≡ false) → (pushes : List PushKey) → map item_of pushes ≡ items_made j s → ((is : List PushItem) → items_after e is ≡ is ++ map item_of pushes)
+      → ((ws vs : List Waiting) → active_after e ws vs ≡ vs) → ((vs : List Waiting) (n : ℕ) → written_after e vs n ≡ n) → PushesAgree j s e
+  pushes_readied other not_barring pushes fits more same_active same_written = record {
     items = waiting_items-other j s waits other ∙ (ap (λ is. waiting_items j ++ is) (sym (fits ∙ items_by-last j s)) ∙ sym (more (waiting_items j)));
-    active = active_same other same_active;
+    active = active-left j s waits may other not_barring ∙ sym (same_active (all_kept j) (all_active j));
+    written = ap in_64_bits (none_written j s waits may (λ u m. no_removal u m s.event other)) ∙ sym (same_written (all_active j) (in_64_bits (removals_written j)));
   }
 
-  pub pushes_calm : IsCalm s → ((is : List PushItem) → items_after e is ≡ is) → ((ps : List PushKey) → active_after e ps ≡ ps) → PushesAgree j s e
-  pushes_calm calm same_items same_active = pushes_left calm.other calm.not_ready same_items same_active
+  pub pushes_calm : IsCalm s → ((is : List PushItem) → items_after e is ≡ is) → ((ws vs : List Waiting) → active_after e ws vs ≡ vs) → ((vs : List Waiting) (n : ℕ) → written_after e vs n ≡ n) → PushesAgree j s e
+  pushes_calm calm same_items same_active same_written = pushes_left calm.other calm.not_ready (unbarring s calm.no_read calm.no_deletion) same_items same_active same_written
 
--- a request is nothing to a notice that waits
-pub calm_asked : (at : ℕ) (r : Request) → IsCalm (record { at = at; event = Asked r })
-calm_asked at r = record { other = refl; never = no_request r; not_ready = λ u k online. refl; not_cleared = λ u k. refl; not_dealt = λ k. refl }
+-- a request that is no read and no deletion is nothing to a notice that waits
+pub calm_asked : (at : ℕ) (r : Request) → ((u : UserId) (m : MessageId) → reads u m (Asked r) ≡ false) → ((m : MessageId) → deletes m (Asked r) ≡ false) → IsCalm (record { at = at; event = Asked r })
+calm_asked at r no_read no_deletion = record { other = refl; never = no_request r; not_ready = λ u k online. refl; not_cleared = λ u k. refl; not_dealt = λ k. refl; no_read = no_read; no_deletion = no_deletion }
+
+-- a message behind the others
+pub one_sent : (f : SentMessage → Bool) (ms : List SentMessage) (m : SentMessage) (n : ℕ) → option_map_or f (option_or (numbered n ms) (cond (n == length ms + 1) (Some m) None)) false ≡ cond (length ms + 1 == n) (f m) (option_map_or f (numbered n ms) false)
+one_sent f ms m n = by (length ms + 1 == n) refl
+  where
+    turned : (a b : ℕ) → (a == b) ≡ (b == a)
+    turned a b = grind (arith, nat_tests)
+
+    is : (a b : ℕ) → (a == b) ≡ true → a ≡ b
+    is a b h = grind (arith, nat_tests)
+
+    none : (o : Option SentMessage) → option_or o None ≡ o
+    none None = refl
+    none (Some x) = refl
+
+    past : (xs : List SentMessage) → slice_get xs (length xs) ≡ None
+    past [] = refl
+    past (x ∷ xs) = past xs
+
+    next : (k : ℕ) → k + 1 ≡ suc k
+    next k = omega arith
+
+    by : (b : Bool) → (length ms + 1 == n) ≡ b → option_map_or f (option_or (numbered n ms) (cond (n == length ms + 1) (Some m) None)) false ≡ cond b (f m) (option_map_or f (numbered n ms) false)
+    by true h =
+        (λ i. option_map_or f (option_or (numbered n ms) (cond ((turned n (length ms + 1) ∙ h) i) (Some m) None)) false)
+        ∙ ap (λ o. option_map_or f (option_or o (Some m)) false) (ap (λ k. numbered k ms) (sym (is (length ms + 1) n h) ∙ next (length ms)) ∙ past ms)
+    by false h =
+        (λ i. option_map_or f (option_or (numbered n ms) (cond ((turned n (length ms + 1) ∙ h) i) (Some m) None)) false)
+        ∙ ap (λ o. option_map_or f o false) (none (numbered n ms))
+
+-- whether two causes are the same, whichever is first
+pub same_cause_swap : (a b : Cause) → same_cause a b ≡ same_cause b a
+same_cause_swap Read Read = refl
+same_cause_swap Read Deleted = refl
+same_cause_swap Read SwitchedOff = refl
+same_cause_swap Deleted Read = refl
+same_cause_swap Deleted Deleted = refl
+same_cause_swap Deleted SwitchedOff = refl
+same_cause_swap SwitchedOff Read = refl
+same_cause_swap SwitchedOff Deleted = refl
+same_cause_swap SwitchedOff SwitchedOff = refl
+
+-- a sum in 64 bits
+pub both_counted : (n m : ℕ) → in_64_bits (n + m) ≡ min (in_64_bits n + in_64_bits m) (2 ^ 64 - 1)
+both_counted n m = omega arith

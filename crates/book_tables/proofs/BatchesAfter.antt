@@ -12,7 +12,8 @@ use Rattle.chat_model.specs.declared.ids.DealNo.{DealNo}
 use Rattle.chat_model.specs.declared.ids.MessageId.{MessageId}
 use Rattle.chat_model.specs.declared.ids.UserId.{UserId}
 use Rattle.notice_ledger.specs.Past.Values.{settings}
-use Rattle.notice_ledger.specs.Past.Owed.{Notice, readies, is_mail_turn_of, waiting}
+use Rattle.notice_ledger.specs.Past.Owed.{Notice, readies, is_mail_turn_of}
+use Rattle.notice_ledger.proofs.Queued.{kept}
 use Rattle.notice_ledger.specs.Past.Due.{batch_rows, due}
 use Rattle.notice_ledger.specs.Past.Journal.{last_stamp}
 use Rattle.notice_ledger.proofs.DueAfter.{is_readied, readied, readied-none, batch_rows-grown, batch_rows-turn, due-readied, due-moved, due-left, due-turn, due-above, due-below}
@@ -25,8 +26,7 @@ use Rattle.book_tables.specs.declared.tables.Waiting.{Waiting}
 use Rattle.book_tables.specs.Batched.{HasRows, due_grown, AreReadied, BatchesAfter}
 use Rattle.book_tables.specs.Tables.{HoldBatches}
 use Rattle.book_tables.proofs.BatchLooks.{due-shifted, rows-shifted, due-settled, rows-settled}
-use Rattle.book_tables.proofs.Kept.{messages-kept}
-use Rattle.book_tables.proofs.RowsAfter.{all_kept}
+use Rattle.book_tables.proofs.Kept.{all_kept, messages-kept}
 
 -- ---- lists
 
@@ -55,22 +55,22 @@ any-counted p n (x ∷ xs) = by (p x) (any-counted p n xs)
 
 module _ (j : List Stamped) (s : Stamped) where
   -- the rows stay where none becomes ready
-  rows_left : (u : UserId) → is_mail_turn_of u s.event ≡ false → list_any (is_readied j s u) (waiting j) ≡ false → IsPermutation (batch_rows (j ++ s ∷ []) u) (batch_rows j u)
+  rows_left : (u : UserId) → is_mail_turn_of u s.event ≡ false → list_any (is_readied j s u) (kept j) ≡ false → IsPermutation (batch_rows (j ++ s ∷ []) u) (batch_rows j u)
   rows_left u never nothing =
       IsPermutation-sym (batch_rows j u) (batch_rows (j ++ s ∷ []) u)
-      (subst (λ (ns : List Notice). IsPermutation ns (batch_rows (j ++ s ∷ []) u)) (ap (λ ns. batch_rows j u ++ ns) (none-passes (is_readied j s u) (waiting j) nothing) ∙ append-nil (batch_rows j u))
+      (subst (λ (ns : List Notice). IsPermutation ns (batch_rows (j ++ s ∷ []) u)) (ap (λ ns. batch_rows j u ++ ns) (none-passes (is_readied j s u) (kept j) nothing) ∙ append-nil (batch_rows j u))
       (batch_rows-grown j s u never))
 
-  held_left : (b : Batches) (u : UserId) → is_mail_turn_of u s.event ≡ false → list_any (is_readied j s u) (waiting j) ≡ false → IsPermutation (map (λ n. n.number) (batch_rows j u)) (rows_of b u) → IsPermutation (map (λ n. n.number) (batch_rows (j ++ s ∷ []) u)) (rows_of b u)
+  held_left : (b : Batches) (u : UserId) → is_mail_turn_of u s.event ≡ false → list_any (is_readied j s u) (kept j) ≡ false → IsPermutation (map (λ n. n.number) (batch_rows j u)) (rows_of b u) → IsPermutation (map (λ n. n.number) (batch_rows (j ++ s ∷ []) u)) (rows_of b u)
   held_left b u never nothing rows =
       IsPermutation-trans (map (λ n. n.number) (batch_rows (j ++ s ∷ []) u)) (map (λ n. n.number) (batch_rows j u)) (rows_of b u)
       (IsPermutation-map (λ (n : Notice). n.number) (batch_rows (j ++ s ∷ []) u) (batch_rows j u) (rows_left u never nothing)) rows
 
   -- the number of rows grows where one becomes ready
-  grown : (u : UserId) → is_mail_turn_of u s.event ≡ false → nat_lt (length (batch_rows j u)) (length (batch_rows (j ++ s ∷ []) u)) ≡ list_any (is_readied j s u) (waiting j)
+  grown : (u : UserId) → is_mail_turn_of u s.event ≡ false → nat_lt (length (batch_rows j u)) (length (batch_rows (j ++ s ∷ []) u)) ≡ list_any (is_readied j s u) (kept j)
   grown u never =
       ap (nat_lt (length (batch_rows j u))) (length_permutation (batch_rows j u ++ readied j s u) (batch_rows (j ++ s ∷ []) u) (batch_rows-grown j s u never) ∙ length-append (batch_rows j u) (readied j s u))
-      ∙ any-counted (is_readied j s u) (length (batch_rows j u)) (waiting j)
+      ∙ any-counted (is_readied j s u) (length (batch_rows j u)) (kept j)
 
 -- how many rows a user has
 pub many_rows : (b : Batches) (j : List Stamped) → HoldBatches b j → (u : UserId) → length (rows_of b u) ≡ length (batch_rows j u)
@@ -86,7 +86,7 @@ module _ (j : List Stamped) (s : Stamped) (e : Effect) where
   pub batches_left : ((u : UserId) → is_mail_turn_of u s.event ≡ false) → ((u : UserId) (k : DealNo) (online : Bool) → readies u k online s.event ≡ false) → ((u : UserId) → (settings (j ++ s ∷ []) u).period ≡ (settings j u).period)
       → ((p q : UserId → ℕ) (ws : List Waiting) (old new : Batches) → BatchesAfter p q ws s.at e old new → new ≡ old) → BatchesAgree j s e
   batches_left never not_ready same stays = record {
-    after = λ p q ws old new before after kept held made. subst (λ (b : Batches). HoldBatches b (j ++ s ∷ [])) (sym (stays p q ws old new made)) (record {
+    after = λ p q ws old new before after same_list held made. subst (λ (b : Batches). HoldBatches b (j ++ s ∷ [])) (sym (stays p q ws old new made)) (record {
       rows = λ u. held_left j s old u (never u) (readied-none j s u (not_ready u)) (held.rows u);
       due = λ u. held.due u ∙ sym (due-left j s u (never u) (same u) (readied-none j s u (not_ready u)));
     });
@@ -96,10 +96,10 @@ module _ (j : List Stamped) (s : Stamped) (e : Effect) where
   pub batches_readied : ((u : UserId) → is_mail_turn_of u s.event ≡ false) → ((u : UserId) → (settings (j ++ s ∷ []) u).period ≡ (settings j u).period)
       → ((p q : UserId → ℕ) (ws : List Waiting) (old new : Batches) → BatchesAfter p q ws s.at e old new → AreReadied p s.at ws old new) → BatchesAgree j s e
   batches_readied never same readies_some = record {
-    after = λ p q ws old new before after kept held made.
+    after = λ p q ws old new before after same_list held made.
         let readied = readies_some p q ws old new made in
         let rows : (u : UserId) → IsPermutation (map (λ n. n.number) (batch_rows (j ++ s ∷ []) u)) (rows_of new u) =
-        λ u. subst (λ (ms : List MessageId). IsPermutation ms (rows_of new u)) (messages-kept u (j ++ s ∷ [])) (subst (λ (vs : List Waiting). HasRows vs new) kept readied.rows u) in
+        λ u. subst (λ (ms : List MessageId). IsPermutation ms (rows_of new u)) (messages-kept u (j ++ s ∷ [])) (subst (λ (vs : List Waiting). HasRows vs new) same_list readied.rows u) in
         record {
           rows = rows;
           due = λ u.
@@ -109,7 +109,7 @@ module _ (j : List Stamped) (s : Stamped) (e : Effect) where
               readied.due u
               ∙ ((λ i. due_grown (s.at + before u i) (nat_lt (old_many i) (new_many i)) (held.due u i))
               ∙ (ap (λ t. due_grown (s.at + (settings j u).period) t (due j u)) (grown j s u (never u))
-              ∙ (either (s.at + (settings j u).period) (due j u) (list_any (is_readied j s u) (waiting j)) ∙ sym (due-readied j s u (never u) (same u)))));
+              ∙ (either (s.at + (settings j u).period) (due j u) (list_any (is_readied j s u) (kept j)) ∙ sym (due-readied j s u (never u) (same u)))));
         };
   }
     where
@@ -121,7 +121,7 @@ module _ (j : List Stamped) (s : Stamped) (e : Effect) where
 pub batches_changed : (j : List Stamped) (s : Stamped) (v : UserId) (change : Preference) → ((u : UserId) → is_mail_turn_of u s.event ≡ false) → ((u : UserId) (k : DealNo) (online : Bool) → readies u k online s.event ≡ false)
     → ((u : UserId) → (v.0 == u.0) ≡ false → (settings (j ++ s ∷ []) u).period ≡ (settings j u).period) → BatchesAgree j s (effect.Preference v change)
 batches_changed j s v change never not_ready others = record {
-  after = λ p q ws old new before after kept held made. subst (λ (b : Batches). HoldBatches b (j ++ s ∷ [])) (sym made) (record {
+  after = λ p q ws old new before after same_list held made. subst (λ (b : Batches). HoldBatches b (j ++ s ∷ [])) (sym made) (record {
     rows = λ u.
         subst (IsPermutation (map (λ n. n.number) (batch_rows (j ++ s ∷ []) u))) (sym (rows-shifted old v (p v) (q v) u))
         (held_left j s old u (never u) (readied-none j s u (not_ready u)) (held.rows u));
@@ -168,7 +168,7 @@ module _ (j : List Stamped) (at : ℕ) (v : UserId) where
   pub batches_settled : (e : Effect) → ((p q : UserId → ℕ) (ws : List Waiting) (old new : Batches) → BatchesAfter p q ws at e old new → new ≡ settled old v)
       → ((u : UserId) → (settings (j ++ record { at = at; event = MailTurn v } ∷ []) u).period ≡ (settings j u).period) → BatchesAgree j (record { at = at; event = MailTurn v }) e
   batches_settled e settles same = record {
-    after = λ p q ws old new before after kept held made. subst (λ (b : Batches). HoldBatches b (j ++ turned ∷ [])) (sym (settles p q ws old new made)) (record {
+    after = λ p q ws old new before after same_list held made. subst (λ (b : Batches). HoldBatches b (j ++ turned ∷ [])) (sym (settles p q ws old new made)) (record {
       rows = λ u. subst (IsPermutation (map (λ n. n.number) (batch_rows (j ++ turned ∷ []) u))) (sym (rows-settled old v u)) (rows_so old held u (v.0 == u.0) refl);
       due = λ u. due-settled old v u ∙ due_so old held same u (v.0 == u.0) refl;
     });

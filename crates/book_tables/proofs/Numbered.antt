@@ -1,5 +1,8 @@
 -- Lists numbered from 1, and a list with one element changed.
-use Rattle.std.proofs.Common.{◌≡◌, ◌≢◌, ℕ, zero, suc, ◌-◌, ◌<◌, ◌≤◌, List, [], ◌∷◌, length, map, get_or, set, refl, ap, arith}
+use Rattle.std.proofs.Common.{◌≡◌, ◌≢◌, ℕ, zero, suc, ◌-◌, ◌<◌, ◌≤◌, Bool, true, false, ◌||◌, ◌==◌, List, [], ◌∷◌, ◌++◌, length, map, get_or, set, refl, sym, ap, ◌∙◌, arith}
+use Rattle.std.specs.Option.{option_map_or}
+use Rattle.std.proofs.lemmas.Bool.Decides.{nat_tests}
+use Rattle.book_tables.specs.Receipts.{is_marked}
 use Rattle.std.specs.Prelude.{Some, None, IfSome, option_map, slice_get}
 use Rattle.std.specs.List.{AllByRecursion}
 use Rattle.notice_ledger.specs.Past.Values.{numbered}
@@ -41,6 +44,12 @@ map-set_at view f n [] y d lt h = absurd (omega arith)
 map-set_at view f zero (x ∷ xs) y d lt h = ap (λ z. z ∷ map view xs) h
 map-set_at view f (suc n) (x ∷ xs) y d lt h = ap (λ ys. view x ∷ ys) (map-set_at view f n xs y d (omega arith) h)
 
+-- an element written
+pub set_at : {A : Type 0} (f : A → A) (n : ℕ) (xs : List A) (y d : A) → n < length xs → y ≡ f (get_or xs n d) → set xs n y ≡ changed_at n f xs
+set_at f n [] y d lt h = absurd (omega arith)
+set_at f zero (x ∷ xs) y d lt h = ap (λ z. z ∷ xs) h
+set_at f (suc n) (x ∷ xs) y d lt h = ap (λ ys. x ∷ ys) (set_at f n xs y d (omega arith) h)
+
 pub slice_get-set : {A : Type 0} (n : ℕ) (xs : List A) (y : A) → n < length xs → slice_get (set xs n y) n ≡ Some y
 slice_get-set n [] y lt = absurd (omega arith)
 slice_get-set zero (x ∷ xs) y lt = refl
@@ -69,3 +78,46 @@ if_gotten P (suc n) (x ∷ xs) all = if_gotten P n xs all.1
 pub if_numbered : {A : Type 0} (P : A → Type 0) (n : ℕ) (xs : List A) → AllByRecursion P xs → IfSome (numbered n xs) P
 if_numbered P zero xs all = tt
 if_numbered P (suc n) xs all = if_gotten P n xs all
+
+-- ---- marks
+
+same_next : (n k : ℕ) → (suc n == suc k) ≡ (n == k)
+same_next n k = grind (arith, nat_tests)
+
+never_first : (k : ℕ) → (0 == suc k) ≡ false
+never_first k = grind (arith, nat_tests)
+
+never_last : (n : ℕ) → (suc n == 0) ≡ false
+never_last n = grind (arith, nat_tests)
+
+or_none : (b : Bool) → b ≡ (b || false)
+or_none true = refl
+or_none false = refl
+
+or_all : (b : Bool) → true ≡ (b || true)
+or_all true = refl
+or_all false = refl
+
+-- a mark that is set
+pub mark-changed : (marks : List Bool) (n k : ℕ) → 0 < n → n ≤ length marks → is_marked (changed_numbered n (λ mark. true) marks) k ≡ (is_marked marks k || n == k)
+mark-changed marks zero k low high = absurd (omega arith)
+mark-changed marks (suc n) zero low high = sym (never_last n)
+mark-changed marks (suc n) (suc k) low high = at marks n k (omega arith) ∙ ap (λ b. option_map_or (λ (mark : Bool). mark) (slice_get marks k) false || b) (sym (same_next n k))
+  where
+    at : (xs : List Bool) (n k : ℕ) → n < length xs → option_map_or (λ (mark : Bool). mark) (slice_get (changed_at n (λ mark. true) xs) k) false ≡ (option_map_or (λ (mark : Bool). mark) (slice_get xs k) false || n == k)
+    at [] n k lt = absurd (omega arith)
+    at (x ∷ xs) zero zero lt = or_all x
+    at (x ∷ xs) zero (suc k) lt = or_none (option_map_or (λ (mark : Bool). mark) (slice_get xs k) false) ∙ ap (λ b. option_map_or (λ (mark : Bool). mark) (slice_get xs k) false || b) (sym (never_first k))
+    at (x ∷ xs) (suc n) zero lt = or_none x ∙ ap (λ b. x || b) (sym (never_last n))
+    at (x ∷ xs) (suc n) (suc k) lt = at xs n k (omega arith) ∙ ap (λ b. option_map_or (λ (mark : Bool). mark) (slice_get xs k) false || b) (sym (same_next n k))
+
+-- a mark that isn't set, behind the others
+pub mark-added : (marks : List Bool) (n : ℕ) → is_marked (marks ++ false ∷ []) n ≡ is_marked marks n
+mark-added marks zero = refl
+mark-added marks (suc n) = at marks n
+  where
+    at : (xs : List Bool) (k : ℕ) → option_map_or (λ (mark : Bool). mark) (slice_get (xs ++ false ∷ []) k) false ≡ option_map_or (λ (mark : Bool). mark) (slice_get xs k) false
+    at [] zero = refl
+    at [] (suc k) = refl
+    at (x ∷ xs) zero = refl
+    at (x ∷ xs) (suc k) = at xs k

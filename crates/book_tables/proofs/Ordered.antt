@@ -1,6 +1,6 @@
 -- The notices that wait after any events stand in the order in which they are kept: by deal, by user, mail before push.
 use Rattle.std.proofs.Common.{◌≡◌, ℕ, zero, suc, ◌+◌, ◌<◌, ◌≤◌, Bool, true, ◌&&◌, ◌||◌, ◌==◌, List, [], ◌∷◌, ◌++◌, length, map, refl, sym, ap, ◌∙◌, subst, arith, length-append}
-use Rattle.std.specs.Prelude.{Option, Some, None, option_map, option_to_list, MatchOption, nat_lt}
+use Rattle.std.specs.Prelude.{Option, Some, None, option_map, option_to_list, is_some, MatchOption, nat_lt}
 use Rattle.std.specs.Option.{option_map_or}
 use Rattle.std.specs.List.{AllByRecursion, filter_map, flat_map, cons_option, range_with_len}
 use Rattle.std.proofs.lemmas.Bool.Decides.{nat_tests}
@@ -12,7 +12,7 @@ use Rattle.chat_model.specs.declared.trigger.Trigger.{Trigger}
 use Rattle.notice_ledger.specs.Past.Journal.{Occurrence, occurrence}
 use Rattle.notice_ledger.specs.Past.Values.{SentMessage, message_of, messages, people, deal_count}
 use Rattle.notice_ledger.specs.Past.Triggers.{trigger, came_by}
-use Rattle.notice_ledger.specs.Past.Owed.{Notice, notice_of, owed_of, owed_by, notices, account_of, is_pending, waiting}
+use Rattle.notice_ledger.specs.Past.Owed.{Notice, notice_of, owed_of, owed_by, notices, ready, was_dealt, cause_of_bar}
 use Rattle.notice_ledger.proofs.Lists.{AllByRecursion-append, AllByRecursion-weaker, AllByRecursion-filter, AllByRecursion-filter_map, by_appending}
 use Rattle.notice_ledger.proofs.Apart.{Pairwise, Pairwise-append, Pairwise-filter}
 use Rattle.notice_ledger.proofs.Appended.{notices-nil, notices-append, messages-append}
@@ -20,7 +20,11 @@ use Rattle.notice_ledger.proofs.Sent.{deal_count-messages}
 use Rattle.notice_ledger.proofs.Waiting.{IsOwedBy, owed_by-each}
 use Rattle.book_tables.proofs.Sought.{all-both}
 use Rattle.book_tables.specs.Notices.{rank, Precedes, IsInOrder, AreNumbered}
-use Rattle.book_tables.specs.Tables.{Holds, notice_kept}
+use Rattle.chat_model.specs.declared.row.Cause.{Cause}
+use Rattle.chat_model.specs.declared.row.Stage.{Stage}
+use Rattle.chat_model.specs.declared.row.Stage.TheVariants.{Held}
+use Rattle.notice_ledger.specs.Past.Pushes.{is_active}
+use Rattle.book_tables.specs.Tables.{Holds, stage_by, notice_at, stays, is_live as stays_live}
 use Rattle.book_tables.specs.declared.tables.Tables.{Tables}
 use Rattle.chat_model.specs.declared.deal.UserVerdict.{UserVerdict}
 use Rattle.chat_model.specs.Outcomes.{is_idle, is_live, gives_idle, gives_live}
@@ -166,18 +170,17 @@ notices-ordered = by_appending (λ j. Pairwise Comes (notices j)) (rw notices-ni
     AllByRecursion-weaker (λ b. b.deal.0 ≡ deal_count j) (Comes a) (λ b it. by_deal a.deal.0 a.user.0 (rank a.way) b.deal.0 b.user.0 (rank b.way) (omega (arith, it))) (owed_by (occurrence j s)) (owed_by-deal (occurrence j s)))
     (notices j) (notices-dealt j))))
 
--- the notices that wait are kept in order
-pub waiting-ordered : (j : List Stamped) → IsInOrder (map (notice_kept j) (waiting j))
-unfolding waiting
-waiting-ordered j = kept (waiting j) (Pairwise-filter Comes (λ n. is_pending (account_of j n)) (notices j) (notices-ordered j))
+-- some notices, each at a stage and with a cause, stand in order
+pub some-ordered : (g : Notice → Stage) (c : Notice → Option Cause) (test : Notice → Bool) (j : List Stamped) → IsInOrder (map (λ n. notice_at (g n) (c n) n) (filter test (notices j)))
+some-ordered g c test j = each (filter test (notices j)) (Pairwise-filter Comes test (notices j) (notices-ordered j))
   where
-    all_kept : (a : Notice) (ns : List Notice) → AllByRecursion (Comes a) ns → AllByRecursion (Precedes (notice_kept j a)) (map (notice_kept j) ns)
-    all_kept a [] all = tt
-    all_kept a (n ∷ ns) all = (all.0, all_kept a ns all.1)
+    all_behind : (a : Notice) (ns : List Notice) → AllByRecursion (Comes a) ns → AllByRecursion (Precedes (notice_at (g a) (c a) a)) (map (λ n. notice_at (g n) (c n) n) ns)
+    all_behind a [] all = tt
+    all_behind a (n ∷ ns) all = (all.0, all_behind a ns all.1)
 
-    kept : (ns : List Notice) → Pairwise Comes ns → IsInOrder (map (notice_kept j) ns)
-    kept [] p = tt
-    kept (n ∷ ns) p = (all_kept n ns p.0, kept ns p.1)
+    each : (ns : List Notice) → Pairwise Comes ns → IsInOrder (map (λ n. notice_at (g n) (c n) n) ns)
+    each [] p = tt
+    each (n ∷ ns) p = (all_behind n ns p.0, each ns p.1)
 
 -- each notice is of the message of its deal
 notices-numbered : (j : List Stamped) → AllByRecursion (λ n. n.number.0 ≡ n.deal.0 + 1) (notices j)
@@ -186,20 +189,34 @@ notices-numbered = by_appending (λ j. AllByRecursion (λ n. n.number.0 ≡ n.de
     (all-both (IsOwedBy (occurrence j s)) (λ n. n.deal.0 ≡ deal_count j) (λ n. n.number.0 ≡ n.deal.0 + 1) (λ n owed dealt. omega (arith, owed.number, dealt, deal_count-messages j))
     (owed_by (occurrence j s)) (owed_by-each (occurrence j s)) (owed_by-deal (occurrence j s)))))
 
-pub waiting-numbered : (j : List Stamped) → AreNumbered (map (notice_kept j) (waiting j))
-unfolding waiting
-waiting-numbered j = kept (waiting j) (AllByRecursion-filter (λ n. n.number.0 ≡ n.deal.0 + 1) (λ n. is_pending (account_of j n)) (notices j) (notices-numbered j))
+pub some-numbered : (g : Notice → Stage) (c : Notice → Option Cause) (test : Notice → Bool) (j : List Stamped) → AreNumbered (map (λ n. notice_at (g n) (c n) n) (filter test (notices j)))
+some-numbered g c test j = each (filter test (notices j)) (AllByRecursion-filter (λ n. n.number.0 ≡ n.deal.0 + 1) test (notices j) (notices-numbered j))
   where
-    kept : (ns : List Notice) → AllByRecursion (λ n. n.number.0 ≡ n.deal.0 + 1) ns → AreNumbered (map (notice_kept j) ns)
-    kept [] all = tt
-    kept (n ∷ ns) all = (all.0, kept ns all.1)
+    each : (ns : List Notice) → AllByRecursion (λ n. n.number.0 ≡ n.deal.0 + 1) ns → AreNumbered (map (λ n. notice_at (g n) (c n) n) ns)
+    each [] all = tt
+    each (n ∷ ns) all = (all.0, each ns all.1)
 
 -- so the tables keep them in order
+abbrev stage_so : List Stamped → Notice → Stage
+stage_so j n = stage_by (was_dealt j n) (is_some (ready j n))
+
 pub in_order : (t : Tables) (j : List Stamped) → Holds t j → IsInOrder t.waiting.items
-in_order t j holds = subst IsInOrder (sym holds.waiting) (waiting-ordered j)
+in_order t j holds = subst IsInOrder (sym holds.waiting) (some-ordered (stage_so j) (cause_of_bar j) (stays j) j)
 
 pub numbered_so : (t : Tables) (j : List Stamped) → Holds t j → AreNumbered t.waiting.items
-numbered_so t j holds = subst AreNumbered (sym holds.waiting) (waiting-numbered j)
+numbered_so t j holds = subst AreNumbered (sym holds.waiting) (some-numbered (stage_so j) (cause_of_bar j) (stays j) j)
+
+pub cleared_in_order : (t : Tables) (j : List Stamped) → Holds t j → IsInOrder t.cleared.items
+cleared_in_order t j holds = subst IsInOrder (sym holds.cleared) (some-ordered (λ n. Held) (λ n. None) (stays_live j) j)
+
+pub cleared_numbered_so : (t : Tables) (j : List Stamped) → Holds t j → AreNumbered t.cleared.items
+cleared_numbered_so t j holds = subst AreNumbered (sym holds.cleared) (some-numbered (λ n. Held) (λ n. None) (stays_live j) j)
+
+pub active_in_order : (t : Tables) (j : List Stamped) → Holds t j → IsInOrder t.active.items
+active_in_order t j holds = subst IsInOrder (sym holds.active) (some-ordered (stage_so j) (cause_of_bar j) (is_active j) j)
+
+pub active_numbered_so : (t : Tables) (j : List Stamped) → Holds t j → AreNumbered t.active.items
+active_numbered_so t j holds = subst AreNumbered (sym holds.active) (some-numbered (stage_so j) (cause_of_bar j) (is_active j) j)
 
 -- ---- verdicts
 

@@ -3,7 +3,7 @@ use Rattle.std.proofs.Common.{◌≡◌, ℕ, Bool, true, false, ◌&&◌, ◌||
 use Rattle.std.specs.Prelude.{filter}
 use Rattle.std.specs.List.{AllByRecursion, flat_map, list_any}
 use Rattle.std.proofs.Math.Bool.{and-true, and-false}
-use Rattle.notice_ledger.proofs.Batches.{filter_same}
+use Rattle.notice_ledger.proofs.Lists.{filter_same}
 use Rattle.chat_model.specs.declared.event.Stamped.{Stamped}
 use Rattle.chat_model.specs.declared.event.Event.TheVariants.{Restart, Absorbed}
 use Rattle.chat_model.specs.declared.deal.Outcome.TheVariants.{Dealt, Missed}
@@ -14,14 +14,13 @@ use Rattle.chat_model.specs.declared.ids.UserId.{UserId}
 use Rattle.chat_model.specs.declared.trigger.Way.{Way}
 use Rattle.chat_model.specs.declared.trigger.Way.TheVariants.{Mail, Push}
 use Rattle.chat_model.specs.Outcomes.{has_deal, gives_idle, gives_live}
-use Rattle.notice_ledger.specs.Past.Owed.{Notice, same_way, readies, account_of, is_pending, waiting}
+use Rattle.notice_ledger.specs.Past.Owed.{Notice, notices, same_way, readies, account_of, is_pending}
+use Rattle.notice_ledger.proofs.Queued.{is_queued, is_kept, kept, kept-each}
 use Rattle.notice_ledger.specs.Past.Pushes.{notify, by_user}
 use Rattle.notice_ledger.specs.Past.Values.{is_one_of}
-use Rattle.notice_ledger.proofs.Apart.{Pairwise, Differ, waiting-apart}
-use Rattle.notice_ledger.proofs.Batches as ledger
-use Rattle.notice_ledger.proofs.PushItems.{is_push_readied, sort_by, by_user-map, items_by-last}
-use Rattle.notice_ledger.proofs.Standing.{is_readying}
-use Rattle.notice_ledger.proofs.Waiting.{waiting-pending}
+use Rattle.notice_ledger.proofs.Apart.{Pairwise, Pairwise-filter, Differ, notices-apart}
+use Rattle.notice_ledger.proofs.PushItems.{is_push_readied, sort_by, by_user-map, items_by-readied}
+use Rattle.notice_ledger.proofs.Standing.{is_readying, is_barring}
 use Rattle.book_tables.specs.declared.pushes.PushKey.{PushKey}
 use Rattle.book_tables.specs.declared.tables.Tables.{Tables}
 use Rattle.book_tables.specs.declared.tables.Waiting.{Waiting}
@@ -30,10 +29,9 @@ use Rattle.book_tables.specs.Prepared.{items_made}
 use Rattle.book_tables.specs.Pushes.{push_of, item_of, has_push, is_readied_push, IsOnceEach}
 use Rattle.book_tables.specs.Tables.{Holds, notice_kept}
 use Rattle.book_tables.proofs.ActivePushes.{key_of_push}
-use Rattle.book_tables.proofs.Kept.{ready-kept, filter-kept}
+use Rattle.book_tables.proofs.Kept.{all_kept, holds-kept, ready-kept, kept_unqueued, filter-kept}
 use Rattle.book_tables.proofs.Moves.{swapped, readies-dealt, readies-missed}
 use Rattle.book_tables.proofs.PushOrder.{push_before, AreApart, sorted_same}
-use Rattle.book_tables.proofs.RowsAfter.{all_kept}
 
 -- an undecided push that the event makes ready
 abbrev pub is_readied : Stamped → Waiting → Bool
@@ -46,19 +44,22 @@ push_way Push = refl
 -- ---- what the definitions make ready
 
 module _ (j : List Stamped) (s : Stamped) where
-  readied-kept : (n : Notice) → is_pending (account_of j n) ≡ true → is_readied s (notice_kept j n) ≡ is_push_readied j s n
-  readied-kept n h = (λ i. (push_way n.way i && not (ready-kept j n h i)) && is_readying s n) ∙ grouped (same_way n.way Push) (not (ledger.is_ready j n)) (is_readying s n)
+  readied-kept : (n : Notice) → is_kept j n ≡ true → is_readied s (notice_kept j n) ≡ is_push_readied j s n
+  readied-kept n h =
+      (λ i. (push_way n.way i && not (ready-kept j n h i)) && is_readying s n)
+      ∙ grouped (same_way n.way Push) (is_queued j n) (is_pending (account_of j n)) (is_readying s n) (kept_unqueued j n h)
     where
-      grouped : (a b c : Bool) → ((a && b) && c) ≡ (a && (b && c))
-      grouped true b c = refl
-      grouped false b c = refl
+      grouped : (a q p r : Bool) → (q ≡ false → p ≡ true) → ((a && not q) && r) ≡ (a && (p && (not q && r)))
+      grouped true true p r pending = sym (and-false p)
+      grouped true false p r pending = ap (λ b. b && r) (sym (pending refl))
+      grouped false q p r pending = refl
 
   -- the pushes of the notices that the event makes ready
   abbrev readied_keys : List PushKey
-  readied_keys = map key_of_push (filter (is_push_readied j s) (waiting j))
+  readied_keys = map key_of_push (filter (is_push_readied j s) (kept j))
 
   kept_keys : map push_of (filter (is_readied s) (all_kept j)) ≡ readied_keys
-  kept_keys = ap (map push_of) (filter-kept (is_readied s) (is_push_readied j s) j readied-kept (waiting j) (waiting-pending j)) ∙ each (filter (is_push_readied j s) (waiting j))
+  kept_keys = ap (map push_of) (filter-kept (is_readied s) (is_push_readied j s) j readied-kept (kept j) (kept-each j)) ∙ each (filter (is_push_readied j s) (kept j))
     where
       each : (ns : List Notice) → map push_of (map (notice_kept j) ns) ≡ map key_of_push ns
       each [] = refl
@@ -66,7 +67,7 @@ module _ (j : List Stamped) (s : Stamped) where
 
   -- two pushes that differ are of another user or message
   other_push : (a b : Notice) → Differ a b → is_push_readied j s a ≡ true → is_push_readied j s b ≡ true → (b.user.0 == a.user.0 && b.number.0 == a.number.0) ≡ false
-  other_push a b d readied_a readied_b = by a.way b.way d (first (same_way a.way Push) (not (ledger.is_ready j a) && is_readying s a) readied_a) (first (same_way b.way Push) (not (ledger.is_ready j b) && is_readying s b) readied_b)
+  other_push a b d readied_a readied_b = by a.way b.way d (first (same_way a.way Push) (is_pending (account_of j a) && (not (is_queued j a) && is_readying s a)) readied_a) (first (same_way b.way Push) (is_pending (account_of j b) && (not (is_queued j b) && is_readying s b)) readied_b)
     where
       first : (x y : Bool) → (x && y) ≡ true → x ≡ true
       first true y h = refl
@@ -94,36 +95,41 @@ module _ (j : List Stamped) (s : Stamped) where
       by true e rest = (none e ns p.0, rest)
       by false e rest = rest
 
-  -- the items that the event makes are those of these pushes, sorted
-  items-sorted : items_made j s ≡ map item_of (sort_by push_before readied_keys)
-  items-sorted =
-      items_by-last j s
-      ∙ (each (by_user (filter (is_push_readied j s) (waiting j))) ∙ ap (map item_of) (by_user-map key_of_push push_before (λ a b. refl) (filter (is_push_readied j s) (waiting j))))
+  -- the items of an event that bars nothing are those of these pushes, sorted
+  items-sorted : ((n : Notice) → is_barring s n ≡ false) → items_made j s ≡ map item_of (sort_by push_before readied_keys)
+  items-sorted never =
+      items_by-readied j s never
+      ∙ (each (by_user (filter (is_push_readied j s) (kept j))) ∙ ap (map item_of) (by_user-map key_of_push push_before (λ a b. refl) (filter (is_push_readied j s) (kept j))))
     where
       each : (ns : List Notice) → map notify ns ≡ map item_of (map key_of_push ns)
       each [] = refl
       each (n ∷ ns) = ap (λ is. notify n ∷ is) (each ns)
 
+-- what is kept is of different users, messages or ways
+kept-apart : (j : List Stamped) → Pairwise Differ (kept j)
+unfolding kept
+kept-apart j = Pairwise-filter Differ (is_kept j) (notices j) (notices-apart j)
+
 -- ---- what the tables make ready
 
 module _ (t : Tables) (past : List Stamped) (holds : Holds t past) where
   -- pushes by user, then message, once each, where they have what the event makes ready
-  pub items-made : (s : Stamped) (gathered ps : List PushKey) → IsOnceEach gathered ps → ((u : UserId) (m : MessageId) → has_push gathered u m ≡ has_push (map push_of (filter (is_readied s) t.waiting.items)) u m) → map item_of ps ≡ items_made past s
-  items-made s gathered ps once same =
-      ap (map item_of) (sorted_same (readied_keys past s) ps once.order (keys-apart past s (waiting past) (waiting-apart past))
-      (λ u m. once.same u m ∙ (same u m ∙ ap (λ (qs : List PushKey). has_push qs u m) (ap (λ (ws : List Waiting). map push_of (filter (is_readied s) ws)) holds.waiting ∙ kept_keys past s))))
-      ∙ sym (items-sorted past s)
+  pub items-made : (s : Stamped) → ((n : Notice) → is_barring s n ≡ false) → (gathered ps : List PushKey) → IsOnceEach gathered ps → ((u : UserId) (m : MessageId) → has_push gathered u m ≡ has_push (map push_of (filter (is_readied s) t.waiting.items)) u m) → map item_of ps ≡ items_made past s
+  items-made s never gathered ps once same =
+      ap (map item_of) (sorted_same (readied_keys past s) ps once.order (keys-apart past s (kept past) (kept-apart past))
+      (λ u m. once.same u m ∙ (same u m ∙ ap (λ (qs : List PushKey). has_push qs u m) (ap (λ (ws : List Waiting). map push_of (filter (is_readied s) ws)) (holds-kept t past holds) ∙ kept_keys past s))))
+      ∙ sym (items-sorted past s never)
 
   pub items-start : (at : ℕ) (gathered ps : List PushKey) → IsOnceEach gathered ps → gathered ≡ map push_of (filter is_undecided_push t.waiting.items) → map item_of ps ≡ items_made past (record { at = at; event = Restart })
   items-start at gathered ps once are =
-      items-made (record { at = at; event = Restart }) gathered ps once
+      items-made (record { at = at; event = Restart }) (λ n. refl) gathered ps once
       (λ u m. ap (λ (qs : List PushKey). has_push qs u m) (are ∙ ap (map push_of) (filter_same is_undecided_push (is_readied (record { at = at; event = Restart })) (λ w. sym (and-true (is_undecided_push w))) t.waiting.items)))
 
   pub items-dealt : (at : ℕ) (k : DealNo) (verdicts : List UserVerdict) (idle live : List UserId) → ((u : UserId) → is_one_of idle u ≡ gives_idle verdicts u) → ((u : UserId) → is_one_of live u ≡ gives_live verdicts u)
       → (gathered ps : List PushKey) → IsOnceEach gathered ps → gathered ≡ map push_of (filter (λ w. of_deal k w && is_readied_push idle live w) t.waiting.items) → map item_of ps ≡ items_made past (record { at = at; event = Absorbed (Dealt k verdicts) })
   items-dealt at k verdicts idle live are_idle are_live gathered ps once are =
       let s : Stamped = record { at = at; event = Absorbed (Dealt k verdicts) } in
-      items-made s gathered ps once
+      items-made s (λ n. refl) gathered ps once
       (λ u m. ap (λ (qs : List PushKey). has_push qs u m) (are ∙ ap (map push_of) (filter_same (λ w. of_deal k w && is_readied_push idle live w) (is_readied s)
       (λ w. turned (of_deal k w) (is_undecided_push w) (goes_ready idle live w) ∙ ap (λ b. is_undecided_push w && b) (sym (readies-dealt k verdicts idle live are_idle are_live w))) t.waiting.items)))
     where
@@ -201,7 +207,7 @@ module _ (t : Tables) (past : List Stamped) (holds : Holds t past) where
       → gathered ≡ flat_map (λ k. map push_of (filter (is_undecided_at k v Push) t.waiting.items)) deals → map item_of ps ≡ items_made past (record { at = at; event = Absorbed (Missed v deals) })
   items-missed at v deals gathered ps once are =
       let s : Stamped = record { at = at; event = Absorbed (Missed v deals) } in
-      items-made t past holds s gathered ps once
+      items-made t past holds s (λ n. refl) gathered ps once
       (λ u m. ap (λ (qs : List PushKey). has_push qs u m) are
       ∙ (has-missed u m v deals t.waiting.items
       ∙ ap (λ (qs : List PushKey). has_push qs u m) (ap (map push_of) (filter_same (λ w. is_undecided_push w && is_named v deals w) (is_readied s) (λ w. ap (λ b. is_undecided_push w && b) (sym (readies-missed v deals w))) t.waiting.items))))

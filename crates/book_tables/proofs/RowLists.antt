@@ -1,6 +1,6 @@
 -- Rows that are made of a list, one by one.
 use Rattle.std.proofs.Common.{◌≡◌, ℕ, zero, suc, ◌+◌, ◌<◌, List, [], ◌∷◌, ◌++◌, length, map, take, get_or, refl, sym, ap, ◌∙◌, add-zero, append_assoc, arith}
-use Rattle.std.specs.Prelude.{Some, false, slice_get}
+use Rattle.std.specs.Prelude.{Some, slice_get}
 use Rattle.std.specs.Option.{option_map_or}
 use Rattle.chat_model.specs.declared.event.Stamped.{Stamped}
 use Rattle.chat_model.specs.declared.ids.UserId.{UserId}
@@ -13,12 +13,24 @@ use Rattle.chat_model.specs.Rows.{changed_all}
 use Rattle.notice_ledger.specs.Past.Values.{numbered, Person, people, named_from, SentMessage, messages, is_bot, settings}
 use Rattle.notice_ledger.specs.Past.Outbox.{outbox}
 use Rattle.notice_ledger.specs.Past.Rows.{user_rows_from, message_rows_from, outbox_rows_from, rows}
-use Rattle.book_tables.specs.declared.pushes.PushKey.{PushKey}
 use Rattle.book_tables.specs.declared.tables.Tables.{Tables}
 use Rattle.book_tables.specs.Tables.{Holds}
 use Rattle.book_tables.specs.declared.tables.Waiting.{Waiting}
 use Rattle.book_tables.specs.Prepared.{notice_row, active_row}
-use Rattle.book_tables.proofs.RowsAfter.{all_kept, rows-made}
+use Rattle.std.proofs.Common.{not, false}
+use Rattle.std.specs.Prelude.{Option, None, is_some, is_none, filter}
+use Rattle.chat_model.specs.declared.row.Cause.{Cause}
+use Rattle.notice_ledger.specs.Past.Owed.{Notice, notices, cause_of_bar}
+use Rattle.notice_ledger.specs.Past.Pushes.{is_active}
+use Rattle.notice_ledger.specs.Past.Values.{is_deleted}
+use Rattle.notice_ledger.proofs.Queued.{kept, kept-each, waiting-kept}
+use Rattle.book_tables.specs.Notices.{is_barred}
+use Rattle.book_tables.specs.Prepared.{puts_where}
+use Rattle.book_tables.specs.Pushes.{push_of}
+use Rattle.book_tables.specs.Tables.{notice_kept}
+use Rattle.book_tables.proofs.ActivePushes.{key_of_push, active_keys, active-has}
+use Rattle.book_tables.proofs.Kept.{all_kept, filter-kept, holds-kept}
+use Rattle.book_tables.proofs.RowsAfter.{all_pending, rows-made}
 
 -- the rows of a list, the first with this number
 abbrev pub rows_by : {A : Type 0} → (ℕ → A → Row) → ℕ → List A → List Row
@@ -72,43 +84,51 @@ bot_at past i u p id at =
 
 -- ---- messages
 
-abbrev pub message_row : ℕ → SentMessage → Row
-message_row n m = row.Message (record { 0 = n }) m.sender m.text false
+abbrev pub message_row : List Stamped → ℕ → SentMessage → Row
+message_row past n m = row.Message (record { 0 = n }) m.sender m.text (is_deleted past (record { 0 = n }))
 
-pub message_rows-by : (n : ℕ) (ms : List SentMessage) → message_rows_from n ms ≡ rows_by message_row n ms
-message_rows-by n [] = refl
-message_rows-by n (m ∷ ms) = ap (λ rs. message_row n m ∷ rs) (message_rows-by (n + 1) ms)
+pub message_rows-by : (past : List Stamped) (n : ℕ) (ms : List SentMessage) → message_rows_from past n ms ≡ rows_by (message_row past) n ms
+message_rows-by past n [] = refl
+message_rows-by past n (m ∷ ms) = ap (λ rs. message_row past n m ∷ rs) (message_rows-by past (n + 1) ms)
 
 -- ---- all rows
 
--- the puts of the notices that wait
+-- the puts of the notices that wait: those that nothing bars
 notices_put : (ws : List Waiting) → map (λ w. Put (notice_row w)) ws ≡ map Put (map notice_row ws)
 notices_put [] = refl
 notices_put (w ∷ ws) = ap (λ cs. Put (notice_row w) ∷ cs) (notices_put ws)
 
+unbarred-kept : (past : List Stamped) → filter (λ w. not (is_barred w)) (all_kept past) ≡ all_pending past
+unbarred-kept past =
+    filter-kept (λ w. not (is_barred w)) (λ n. is_none (cause_of_bar past n)) past (λ n h. unbarred (cause_of_bar past n)) (kept past) (kept-each past) ∙ ap (map (notice_kept past)) (sym (waiting-kept past))
+  where
+    unbarred : (o : Option Cause) → not (is_some o) ≡ is_none o
+    unbarred None = refl
+    unbarred (Some c) = refl
+
 -- and those of the active pushes
-active_put : (ps : List PushKey) → map (λ p. Put (active_row p)) ps ≡ map Put (map active_row ps)
-active_put [] = refl
-active_put (p ∷ ps) = ap (λ cs. Put (active_row p) ∷ cs) (active_put ps)
+active_put : (j : List Stamped) (ns : List Notice) → map (λ w. Put (active_row (push_of w))) (map (notice_kept j) ns) ≡ map Put (map active_row (map key_of_push ns))
+active_put j [] = refl
+active_put j (n ∷ ns) = ap (λ cs. Put (active_row (key_of_push n)) ∷ cs) (active_put j ns)
 
 joined : (us ms ps qs os : List RowChange) → (((us ++ ms) ++ ps) ++ qs) ++ os ≡ us ++ (ms ++ (ps ++ (qs ++ os)))
 joined us ms ps qs os = simp append_assoc
 
 -- the puts of everything that has a row, table by table, make the rows
-pub rows_put : (t : Tables) (past : List Stamped) → Holds t past → (users all waits active entries : List RowChange) → users ≡ map Put (user_rows_from past 1 (people past)) → all ≡ users ++ map Put (message_rows_from 1 (messages past))
-    → waits ≡ all ++ map (λ w. Put (notice_row w)) t.waiting.items → active ≡ waits ++ map (λ p. Put (active_row p)) t.active.items → entries ≡ active ++ map Put (outbox_rows_from 1 t.outbox.items) → changed_all entries [] ≡ rows past
+pub rows_put : (t : Tables) (past : List Stamped) → Holds t past → (users all waits active entries : List RowChange) → users ≡ map Put (user_rows_from past 1 (people past)) → all ≡ users ++ map Put (message_rows_from past 1 (messages past))
+    → waits ≡ all ++ puts_where (λ w. not (is_barred w)) (λ w. w) t.waiting.items → active ≡ waits ++ map (λ w. Put (active_row (push_of w))) t.active.items → entries ≡ active ++ map Put (outbox_rows_from 1 t.outbox.items) → changed_all entries [] ≡ rows past
 rows_put t past h users all waits active entries are_users are_messages are_waits are_active are_entries =
-    let us = map Put (user_rows_from past 1 (people past)) in let ms = map Put (message_rows_from 1 (messages past)) in let ps = map Put (map notice_row (all_kept past)) in
-    let qs = map Put (map active_row t.active.items) in let os = map Put (outbox_rows_from 1 (outbox past)) in
+    let us = map Put (user_rows_from past 1 (people past)) in let ms = map Put (message_rows_from past 1 (messages past)) in let ps = map Put (map notice_row (all_pending past)) in
+    let qs = map Put (map active_row (active_keys past)) in let os = map Put (outbox_rows_from 1 (outbox past)) in
     let put_messages : all ≡ us ++ ms = are_messages ∙ ap (λ (cs : List RowChange). cs ++ ms) are_users in
     let put_waits : waits ≡ (us ++ ms) ++ ps =
     are_waits
-    ∙ (ap (λ (cs : List RowChange). cs ++ map (λ w. Put (notice_row w)) t.waiting.items) put_messages
-    ∙ ap (λ (cs : List RowChange). (us ++ ms) ++ cs) (ap (map (λ w. Put (notice_row w))) h.waiting ∙ notices_put (all_kept past))) in
+    ∙ (ap (λ (cs : List RowChange). cs ++ puts_where (λ w. not (is_barred w)) (λ w. w) t.waiting.items) put_messages
+    ∙ ap (λ (cs : List RowChange). (us ++ ms) ++ cs) (ap (map (λ w. Put (notice_row w))) (ap (filter (λ w. not (is_barred w))) (holds-kept t past h) ∙ unbarred-kept past) ∙ notices_put (all_pending past))) in
     let put_active : active ≡ ((us ++ ms) ++ ps) ++ qs =
-    are_active ∙ (λ i. put_waits i ++ active_put t.active.items i) in
+    are_active ∙ (λ i. put_waits i ++ (ap (map (λ w. Put (active_row (push_of w)))) h.active ∙ active_put past (filter (is_active past) (notices past))) i) in
     let put_entries : entries ≡ (((us ++ ms) ++ ps) ++ qs) ++ os =
     are_entries
     ∙ (λ i. put_active i ++ map Put (outbox_rows_from 1 (h.outbox i))) in
     ap (λ (cs : List RowChange). changed_all cs []) (put_entries ∙ joined us ms ps qs os)
-    ∙ rows-made past t.active.items h.active
+    ∙ rows-made past (active_keys past) (λ u m. active-has u m past)

@@ -1,12 +1,13 @@
 -- The rows of a journal with one more event are the rows before it with the changes that the event brings.
 use Rattle.std.proofs.Common.{◌≡◌, ◌≢◌, ℕ, suc, ◌+◌, Bool, true, false, cond, List, [], ◌∷◌, ◌++◌, Option, Some, None, length, map, refl, sym, ap, ◌∙◌, arith, add-zero}
-use Rattle.std.specs.Prelude.{option_map, option_to_list, is_some, if◌then◌else◌}
+use Rattle.std.specs.Prelude.{option_map, option_to_list, is_some}
+use Rattle.std.specs.Option.{option_map_or}
 use Rattle.std.specs.List.{AllByRecursion, filter_map, cons_option}
 use Rattle.std.proofs.lemmas.List.{map-append}
 use Rattle.chat_model.specs.declared.event.Stamped.{Stamped}
 use Rattle.chat_model.specs.declared.event.Event.{Event}
 use Rattle.chat_model.specs.declared.event.Event.TheVariants.{Restart, Asked, Absorbed, MailTurn, PushTurn}
-use Rattle.chat_model.specs.declared.request.Request.TheVariants.{AddUser, AddGroup, Member, AddChannel, Subscribe, Set, SetChannel, SetPolicy, Mute, Send, Direct}
+use Rattle.chat_model.specs.declared.request.Request.TheVariants.{AddUser, AddGroup, Member, AddChannel, Subscribe, Set, SetChannel, SetPolicy, Mute, Send, Direct, Delete, Read}
 use Rattle.chat_model.specs.declared.entry.Entry.{Entry}
 use Rattle.chat_model.specs.declared.ids.MessageId.{MessageId}
 use Rattle.chat_model.specs.declared.ids.UserId.{UserId}
@@ -20,19 +21,19 @@ use Rattle.chat_model.specs.declared.row.RowChange.TheVariants.{Put, Remove}
 use Rattle.chat_model.specs.Rows.{key_of, row_at, changed_all}
 use Rattle.chat_model.proofs.Rows.{row_after, row_after_all, row_at-changed_all, row_after_all-append, changed_all-same, IsAscending-nil}
 use Rattle.notice_ledger.specs.Past.Journal.{Occurrence, occurrence}
-use Rattle.chat_model.specs.declared.row.Cause.TheVariants.{SwitchedOff}
 use Rattle.chat_model.specs.Settings.{changed_settings}
-use Rattle.notice_ledger.specs.Past.Values.{Person, person, people, SentMessage, message_of, messages, settings}
+use Rattle.notice_ledger.specs.Past.Values.{Person, person, people, SentMessage, sent_by, message, messages, is_deleted, settings}
 use Rattle.notice_ledger.specs.declared.accounts.Account.TheVariants as accounts
-use Rattle.notice_ledger.specs.Past.Owed.{Notice, notices, ready, was_cleared, was_dealt, turn, switch_on, decided, account_by, account_of, account, is_handed, is_pending, waiting}
+use Rattle.notice_ledger.specs.Past.Owed.{Notice, notices, was_dealt, account_of, is_pending, waiting}
 use Rattle.notice_ledger.specs.Past.Outbox.{outbox, entries_by}
 use Rattle.notice_ledger.specs.Past.Pushes.{is_push_turn}
+use Rattle.notice_ledger.proofs.PushesWait.{PushesWait}
 use Rattle.notice_ledger.specs.Past.Rows.{stage_of, user_rows_from, message_rows_from, outbox_rows_from, pending_row, listed_rows, by_key, rows}
 use Rattle.notice_ledger.specs.Past.Rows as ledger
-use Rattle.notice_ledger.proofs.PushTurns.{is_handed-same}
-use Rattle.notice_ledger.proofs.Appended.{people-nil, messages-nil, messages-append, notices-nil, outbox-nil, outbox-append}
+use Rattle.notice_ledger.proofs.ActiveAfter.{is_push_active, push_active-left}
+use Rattle.notice_ledger.proofs.Appended.{people-nil, messages-nil, notices-nil, outbox-nil, outbox-append}
 use Rattle.notice_ledger.proofs.OneMore.{row_at_stage, pending_rows-waiting}
-use Rattle.notice_ledger.proofs.Standing.{account_of-plain}
+use Rattle.notice_ledger.proofs.Queued.{is_queued, queued-account, queued-ready, pending-unbarred, unqueued-unready}
 use Rattle.notice_ledger.proofs.Waiting.{waiting-pending}
 use Rattle.notice_ledger.proofs.RowKeys.{table, other_key}
 use Rattle.notice_ledger.proofs.RowOrder.{rows-ascending, rows-changed_all}
@@ -41,7 +42,9 @@ use Rattle.book_tables.specs.declared.tables.Waiting.{Waiting}
 use Rattle.book_tables.specs.Pushes.{has_push}
 use Rattle.book_tables.specs.Tables.{stage_by, notice_at, notice_kept}
 use Rattle.book_tables.proofs.ActivePushes.{active_keys, active_rows-keys, active_puts, puts_have}
-use Rattle.book_tables.proofs.NewRows.{new_user_rows, new_message_rows, new_outbox_rows, changes_with}
+use Rattle.book_tables.proofs.Kept.{unqueued-account}
+use Rattle.book_tables.proofs.MessagesAfter.{next_message, messages-after}
+use Rattle.book_tables.proofs.NewRows.{sent_rows, new_user_rows, new_message_rows, new_outbox_rows, changes_with}
 use Rattle.book_tables.proofs.RowMoves.{change_key}
 use Rattle.notice_ledger.specs.Lawful.{is_lawful_after}
 use Rattle.notice_ledger.specs.Rows as any
@@ -123,9 +126,9 @@ pub users_are : (j : List Stamped) (n : ℕ) (ps : List Person) → AreOf 0 (map
 users_are j n [] = tt
 users_are j n (p ∷ ps) = (refl, users_are j (n + 1) ps)
 
-pub messages_are : (n : ℕ) (ms : List SentMessage) → AreOf 1 (map Put (message_rows_from n ms))
-messages_are n [] = tt
-messages_are n (m ∷ ms) = (refl, messages_are (n + 1) ms)
+pub messages_are : (j : List Stamped) (n : ℕ) (ms : List SentMessage) → AreOf 1 (map Put (message_rows_from j n ms))
+messages_are j n [] = tt
+messages_are j n (m ∷ ms) = (refl, messages_are j (n + 1) ms)
 
 pub waiting_are : (ws : List Waiting) → AreOf 2 (map Put (map notice_row ws))
 waiting_are [] = tt
@@ -156,12 +159,33 @@ new_users_are j (Asked (SetPolicy user channel topic policy)) = tt
 new_users_are j (Asked (Mute user other on)) = tt
 new_users_are j (Asked (Send sender channel topic text)) = tt
 new_users_are j (Asked (Direct sender to text)) = tt
+new_users_are j (Asked (Delete user message)) = tt
+new_users_are j (Asked (Read user messages)) = tt
 new_users_are j (Absorbed outcome) = tt
 new_users_are j (MailTurn user) = tt
 new_users_are j (PushTurn item) = tt
 
-new_messages_are : (j : List Stamped) (s : Stamped) → AreOf 1 (map Put (new_message_rows j s))
-new_messages_are j s = put_some_are 1 (λ (m : SentMessage). row.Message (record { 0 = length (messages j) + 1 }) m.sender m.text false) (λ m. refl) (message_of (occurrence j s))
+sent_are : (j : List Stamped) (o : Option SentMessage) → AreOf 1 (map Put (sent_rows j o))
+sent_are j o = put_some_are 1 (λ (m : SentMessage). row.Message (record { 0 = length (messages j) + 1 }) m.sender m.text false) (λ m. refl) o
+
+new_messages_are : (j : List Stamped) (e : Event) → AreOf 1 (map Put (new_message_rows j e))
+new_messages_are j (Asked (Delete user m)) = put_some_are 1 (λ (sent : SentMessage). row.Message m sent.sender sent.text true) (λ sent. refl) (message j m)
+new_messages_are j Restart = tt
+new_messages_are j (Asked (AddUser name bot)) = tt
+new_messages_are j (Asked (AddGroup name members)) = tt
+new_messages_are j (Asked (Member group user on)) = tt
+new_messages_are j (Asked (AddChannel name)) = tt
+new_messages_are j (Asked (Subscribe user channel on)) = tt
+new_messages_are j (Asked (Set user change)) = tt
+new_messages_are j (Asked (SetChannel user channel change)) = tt
+new_messages_are j (Asked (SetPolicy user channel topic policy)) = tt
+new_messages_are j (Asked (Mute user other on)) = tt
+new_messages_are j (Asked (Send sender channel topic text)) = sent_are j (sent_by j (Asked (Send sender channel topic text)))
+new_messages_are j (Asked (Direct sender to text)) = sent_are j (sent_by j (Asked (Direct sender to text)))
+new_messages_are j (Asked (Read user messages)) = tt
+new_messages_are j (Absorbed outcome) = tt
+new_messages_are j (MailTurn user) = tt
+new_messages_are j (PushTurn item) = tt
 
 one_more : (n : ℕ) → 1 + n ≡ n + 1
 one_more n = omega arith
@@ -169,24 +193,10 @@ one_more n = omega arith
 step_on : (n m : ℕ) → (n + 1) + m ≡ n + suc m
 step_on n m = omega arith
 
-message_rows-append : (n : ℕ) (ms ns : List SentMessage) → message_rows_from n (ms ++ ns) ≡ message_rows_from n ms ++ message_rows_from (n + length ms) ns
-message_rows-append n [] ns = ap (λ k. message_rows_from k ns) (sym (add-zero n))
-message_rows-append n (m ∷ ms) ns =
-    ap (λ rs. row.Message (record { 0 = n }) m.sender m.text false ∷ rs) (message_rows-append (n + 1) ms ns ∙ ap (λ k. message_rows_from (n + 1) ms ++ message_rows_from k ns) (step_on n (length ms)))
-
 pub outbox_rows-append : (n : ℕ) (es fs : List Entry) → outbox_rows_from n (es ++ fs) ≡ outbox_rows_from n es ++ outbox_rows_from (n + length es) fs
 outbox_rows-append n [] fs = ap (λ k. outbox_rows_from k fs) (sym (add-zero n))
 outbox_rows-append n (e ∷ es) fs =
     ap (λ rs. row.Outbox (record { 0 = n }) e false ∷ rs) (outbox_rows-append (n + 1) es fs ∙ ap (λ k. outbox_rows_from (n + 1) es ++ outbox_rows_from k fs) (step_on n (length es)))
-
-new_messages : (n : ℕ) (o : Option SentMessage) → message_rows_from (1 + n) (option_to_list o) ≡ option_to_list (option_map (λ (m : SentMessage). row.Message (record { 0 = n + 1 }) m.sender m.text false) o)
-new_messages n None = refl
-new_messages n (Some m) = ap (λ k. row.Message (record { 0 = k }) m.sender m.text false ∷ []) (one_more n)
-
-messages_after : (j : List Stamped) (s : Stamped) → message_rows_from 1 (messages (j ++ s ∷ [])) ≡ message_rows_from 1 (messages j) ++ new_message_rows j s
-messages_after j s =
-    ap (message_rows_from 1) (messages-append j s)
-    ∙ (message_rows-append 1 (messages j) (option_to_list (message_of (occurrence j s))) ∙ ap (λ rs. message_rows_from 1 (messages j) ++ rs) (new_messages (length (messages j)) (message_of (occurrence j s))))
 
 outbox_after : (j : List Stamped) (s : Stamped) → outbox_rows_from 1 (outbox (j ++ s ∷ [])) ≡ outbox_rows_from 1 (outbox j) ++ new_outbox_rows j s
 outbox_after j s =
@@ -195,34 +205,32 @@ outbox_after j s =
 
 -- ---- the pending rows
 
--- the notices that wait, as they are kept
-abbrev pub all_kept : List Stamped → List Waiting
-all_kept j = map (notice_kept j) (waiting j)
+-- the notices that wait, as they are kept: those that the tables keep and nothing bars
+abbrev pub all_pending : List Stamped → List Waiting
+all_pending j = map (notice_kept j) (waiting j)
 
 -- changes of pending rows that make of the rows of the notices that wait those of the notices that wait after the event
 pub record MakesPending (j : List Stamped) (s : Stamped) (changes : List RowChange) : Type 0 where
   pub are : AreOf 2 changes
-  pub makes : (k : RowKey) → row_after_all k changes (row_after_all k (map Put (map notice_row (all_kept j))) None) ≡ row_after_all k (map Put (map notice_row (all_kept (j ++ s ∷ [])))) None
+  pub makes : (k : RowKey) → row_after_all k changes (row_after_all k (map Put (map notice_row (all_pending j))) None) ≡ row_after_all k (map Put (map notice_row (all_pending (j ++ s ∷ [])))) None
 
 -- a pending notice has the row of what is kept of it
-one_pending : (n : Notice) (t r : Option Occurrence) (c d : Bool) → is_pending (account_by (option_map (decided n) t) None (is_some r) c d) ≡ true
-    → option_map (row_at_stage n) (stage_of (account_by (option_map (decided n) t) None (is_some r) c d)) ≡ Some (notice_row (notice_at (stage_by d (is_some r)) n))
-one_pending n (Some x) r c d h = absurd (was_decided (switch_on x.past n.user n.way) h)
-  where
-    was_decided : (b : Bool) → is_pending (if b then accounts.Handed else accounts.Cancelled SwitchedOff) ≡ true → ⊥
-    was_decided true h = cc
-    was_decided false h = cc
-one_pending n None (Some o) c d h = refl
-one_pending n None None true d h = absurd (cc)
-one_pending n None None false true h = refl
-one_pending n None None false false h = refl
-
 pending_kept : (j : List Stamped) (n : Notice) → is_pending (account_of j n) ≡ true → pending_row j n ≡ Some (notice_row (notice_kept j n))
-pending_kept j n h =
-    ap (λ a. option_map (row_at_stage n) (stage_of a)) (account_of-plain j n)
-    ∙ one_pending n (turn j n) (ready j n) (was_cleared j n) (was_dealt j n) (ap is_pending (sym (account_of-plain j n)) ∙ h)
+pending_kept j n h = by (is_queued j n) refl
+  where
+    two : (d : Bool) → option_map (row_at_stage n) (stage_of (cond d accounts.Held accounts.Flight)) ≡ Some (row_at_stage n (stage_by d false))
+    two true = refl
+    two false = refl
 
-pub pending_rows-kept : (j : List Stamped) → filter_map (pending_row j) (notices j) ≡ map notice_row (all_kept j)
+    by : (q : Bool) → is_queued j n ≡ q → pending_row j n ≡ Some (notice_row (notice_kept j n))
+    by true q =
+        ap (λ a. option_map (row_at_stage n) (stage_of a)) (queued-account j n q ∙ ap (λ c. option_map_or accounts.Cancelled c accounts.Ready) (pending-unbarred j n h))
+        ∙ ap (λ o. Some (row_at_stage n (stage_by (was_dealt j n) (is_some o)))) (sym (queued-ready j n q).1)
+    by false q =
+        ap (λ a. option_map (row_at_stage n) (stage_of a)) (unqueued-account j n h q)
+        ∙ (two (was_dealt j n) ∙ ap (λ o. Some (row_at_stage n (stage_by (was_dealt j n) (is_some o)))) (sym (unqueued-unready j n h q).no_event))
+
+pub pending_rows-kept : (j : List Stamped) → filter_map (pending_row j) (notices j) ≡ map notice_row (all_pending j)
 pending_rows-kept j = pending_rows-waiting j ∙ each (waiting j) (waiting-pending j)
   where
     each : (ns : List Notice) → AllByRecursion (λ n. is_pending (account_of j n) ≡ true) ns → filter_map (pending_row j) ns ≡ map notice_row (map (notice_kept j) ns)
@@ -238,38 +246,38 @@ pub record MakesActive (j : List Stamped) (s : Stamped) (changes : List RowChang
       → let k = key.Active u m in row_after_all k changes (row_after_all k (map Put (map active_row (active_keys j))) None) ≡ row_after_all k (map Put (map active_row (active_keys (j ++ s ∷ [])))) None
 
 -- no change, where the event is no push turn
-pub active_left : (j : List Stamped) (s : Stamped) → is_push_turn s.event ≡ false → MakesActive j s []
-active_left j s other = record {
+pub active_left : (j : List Stamped) (s : Stamped) → PushesWait j → is_push_turn s.event ≡ false → MakesActive j s []
+active_left j s waits other = record {
   are = tt;
-  makes = λ u m. active_puts j u m ∙ (ap (λ b. cond b (Some (row.Active u m)) None) (sym (is_handed-same j s u m other)) ∙ sym (active_puts (j ++ s ∷ []) u m));
+  makes = λ u m. active_puts j u m ∙ (ap (λ b. cond b (Some (row.Active u m)) None) (sym (push_active-left j s u m waits other)) ∙ sym (active_puts (j ++ s ∷ []) u m));
 }
 
 -- ---- all tables
 
 -- the puts of a journal's rows, table by table
 table_puts : (j : List Stamped) → map Put (listed_rows j)
-    ≡ map Put (user_rows_from j 1 (people j)) ++ (map Put (message_rows_from 1 (messages j)) ++ (map Put (map notice_row (all_kept j)) ++ (map Put (map active_row (active_keys j)) ++ map Put (outbox_rows_from 1 (outbox j)))))
+    ≡ map Put (user_rows_from j 1 (people j)) ++ (map Put (message_rows_from j 1 (messages j)) ++ (map Put (map notice_row (all_pending j)) ++ (map Put (map active_row (active_keys j)) ++ map Put (outbox_rows_from 1 (outbox j)))))
 table_puts j =
-    let us = user_rows_from j 1 (people j) in let ms = message_rows_from 1 (messages j) in let ps = map notice_row (all_kept j) in let qs = map active_row (active_keys j) in let os = outbox_rows_from 1 (outbox j) in
+    let us = user_rows_from j 1 (people j) in let ms = message_rows_from j 1 (messages j) in let ps = map notice_row (all_pending j) in let qs = map active_row (active_keys j) in let os = outbox_rows_from 1 (outbox j) in
     (λ i. map Put (us ++ (ms ++ (pending_rows-kept j i ++ (active_rows-keys j i ++ os)))))
     ∙ (puts_append us (ms ++ (ps ++ (qs ++ os)))
     ∙ ap (λ cs. map Put us ++ cs) (puts_append ms (ps ++ (qs ++ os))
     ∙ ap (λ cs. map Put ms ++ cs) (puts_append ps (qs ++ os)
     ∙ ap (λ cs. map Put ps ++ cs) (puts_append qs os))))
 
-tables_are : (j : List Stamped) → AreTables (map Put (user_rows_from j 1 (people j))) (map Put (message_rows_from 1 (messages j))) (map Put (map notice_row (all_kept j))) (map Put (map active_row (active_keys j))) (map Put (outbox_rows_from 1 (outbox j)))
+tables_are : (j : List Stamped) → AreTables (map Put (user_rows_from j 1 (people j))) (map Put (message_rows_from j 1 (messages j))) (map Put (map notice_row (all_pending j))) (map Put (map active_row (active_keys j))) (map Put (outbox_rows_from 1 (outbox j)))
 tables_are j = record {
   users = users_are j 1 (people j);
-  messages = messages_are 1 (messages j);
-  pending = waiting_are (all_kept j);
+  messages = messages_are j 1 (messages j);
+  pending = waiting_are (all_pending j);
   active = active_are (active_keys j);
   outbox = outbox_are 1 (outbox j);
 }
 
-changes_are : (j : List Stamped) (s : Stamped) (pending active : List RowChange) → AreOf 2 pending → AreOf 3 active → AreTables (map Put (new_user_rows j s.event)) (map Put (new_message_rows j s)) pending active (map Put (new_outbox_rows j s))
+changes_are : (j : List Stamped) (s : Stamped) (pending active : List RowChange) → AreOf 2 pending → AreOf 3 active → AreTables (map Put (new_user_rows j s.event)) (map Put (new_message_rows j s.event)) pending active (map Put (new_outbox_rows j s))
 changes_are j s pending active are are_active = record {
   users = new_users_are j s.event;
-  messages = new_messages_are j s;
+  messages = new_messages_are j s.event;
   pending = are;
   active = are_active;
   outbox = outbox_are (length (outbox j) + 1) (entries_by j s.at s.event);
@@ -277,7 +285,7 @@ changes_are j s pending active are are_active = record {
 
 -- of the puts of a journal's rows those of a key's table
 abbrev own_puts : RowKey → List Stamped → List RowChange
-own_puts k j = own k (map Put (user_rows_from j 1 (people j))) (map Put (message_rows_from 1 (messages j))) (map Put (map notice_row (all_kept j))) (map Put (map active_row (active_keys j))) (map Put (outbox_rows_from 1 (outbox j)))
+own_puts k j = own k (map Put (user_rows_from j 1 (people j))) (map Put (message_rows_from j 1 (messages j))) (map Put (map notice_row (all_pending j))) (map Put (map active_row (active_keys j))) (map Put (outbox_rows_from 1 (outbox j)))
 
 -- what stands at a key in the rows of a journal
 pub row_at-rows : (k : RowKey) (j : List Stamped) → row_at k (rows j) ≡ row_after_all k (own_puts k j) None
@@ -285,39 +293,37 @@ row_at-rows k j =
     ap (row_at k) (rows-changed_all j)
     ∙ (row_at-changed_all k (map Put (listed_rows j)) []
     ∙ (ap (λ cs. row_after_all k cs None) (table_puts j)
-    ∙ own_changes k (map Put (user_rows_from j 1 (people j))) (map Put (message_rows_from 1 (messages j))) (map Put (map notice_row (all_kept j))) (map Put (map active_row (active_keys j))) (map Put (outbox_rows_from 1 (outbox j))) None (tables_are j)))
+    ∙ own_changes k (map Put (user_rows_from j 1 (people j))) (map Put (message_rows_from j 1 (messages j))) (map Put (map notice_row (all_pending j))) (map Put (map active_row (active_keys j))) (map Put (outbox_rows_from 1 (outbox j))) None (tables_are j)))
 
 -- at a key the new rows are the old with the changes of its own table
-own_after : (k : RowKey) (j : List Stamped) (s : Stamped) (pending active : List RowChange) → MakesPending j s pending → MakesActive j s active
-    → row_after_all k (own k (map Put (new_user_rows j s.event)) (map Put (new_message_rows j s)) pending active (map Put (new_outbox_rows j s))) (row_after_all k (own_puts k j) None) ≡ row_after_all k (own_puts k (j ++ s ∷ [])) None
-own_after (key.User u) j s pending active makes makes_active = sym (users-after u j s s.event refl)
-own_after (key.Message m) j s pending active makes makes_active =
-    sym (ap (λ rs. row_after_all (key.Message m) rs None) (ap (map Put) (messages_after j s) ∙ puts_append (message_rows_from 1 (messages j)) (new_message_rows j s))
-    ∙ row_after_all-append (key.Message m) (map Put (message_rows_from 1 (messages j))) (map Put (new_message_rows j s)) None)
-own_after (key.Pending u m w) j s pending active makes makes_active = makes.makes (key.Pending u m w)
-own_after (key.Active u m) j s pending active makes makes_active = makes_active.makes u m
-own_after (key.Outbox n) j s pending active makes makes_active =
+own_after : (k : RowKey) (j : List Stamped) (s : Stamped) (pending active : List RowChange) → is_deleted j (next_message j) ≡ false → MakesPending j s pending → MakesActive j s active
+    → row_after_all k (own k (map Put (new_user_rows j s.event)) (map Put (new_message_rows j s.event)) pending active (map Put (new_outbox_rows j s))) (row_after_all k (own_puts k j) None) ≡ row_after_all k (own_puts k (j ++ s ∷ [])) None
+own_after (key.User u) j s pending active kept makes makes_active = sym (users-after u j s s.event refl)
+own_after (key.Message m) j s pending active kept makes makes_active = messages-after m j s kept
+own_after (key.Pending u m w) j s pending active kept makes makes_active = makes.makes (key.Pending u m w)
+own_after (key.Active u m) j s pending active kept makes makes_active = makes_active.makes u m
+own_after (key.Outbox n) j s pending active kept makes makes_active =
     sym (ap (λ rs. row_after_all (key.Outbox n) rs None) (ap (map Put) (outbox_after j s) ∙ puts_append (outbox_rows_from 1 (outbox j)) (new_outbox_rows j s))
     ∙ row_after_all-append (key.Outbox n) (map Put (outbox_rows_from 1 (outbox j))) (map Put (new_outbox_rows j s)) None)
 
 -- the rows after an event are the rows before it with its changes
-pub rows-append : (j : List Stamped) (s : Stamped) (pending active : List RowChange) → MakesPending j s pending → MakesActive j s active → changed_all (changes_with j s pending active) (rows j) ≡ rows (j ++ s ∷ [])
-rows-append j s pending active makes makes_active =
+pub rows-append : (j : List Stamped) (s : Stamped) (pending active : List RowChange) → is_deleted j (next_message j) ≡ false → MakesPending j s pending → MakesActive j s active → changed_all (changes_with j s pending active) (rows j) ≡ rows (j ++ s ∷ [])
+rows-append j s pending active kept makes makes_active =
     changed_all-same (changes_with j s pending active) (rows j) (rows (j ++ s ∷ [])) (rows-ascending j) (rows-ascending (j ++ s ∷ [])) (λ k.
     ap (row_after_all k (changes_with j s pending active)) (row_at-rows k j)
-    ∙ (own_changes k (map Put (new_user_rows j s.event)) (map Put (new_message_rows j s)) pending active (map Put (new_outbox_rows j s)) (row_after_all k (own_puts k j) None) (changes_are j s pending active makes.are makes_active.are)
-    ∙ (own_after k j s pending active makes makes_active ∙ sym (row_at-rows k (j ++ s ∷ [])))))
+    ∙ (own_changes k (map Put (new_user_rows j s.event)) (map Put (new_message_rows j s.event)) pending active (map Put (new_outbox_rows j s)) (row_after_all k (own_puts k j) None) (changes_are j s pending active makes.are makes_active.are)
+    ∙ (own_after k j s pending active kept makes makes_active ∙ sym (row_at-rows k (j ++ s ∷ [])))))
 
 -- puts of all that has a row, table by table, with these active pushes, make the rows
-pub rows-made : (j : List Stamped) (qs : List PushKey) → ((u : UserId) (m : MessageId) → has_push qs u m ≡ is_handed (account j u m Push))
-    → changed_all (map Put (user_rows_from j 1 (people j)) ++ (map Put (message_rows_from 1 (messages j)) ++ (map Put (map notice_row (all_kept j)) ++ (map Put (map active_row qs) ++ map Put (outbox_rows_from 1 (outbox j)))))) [] ≡ rows j
+pub rows-made : (j : List Stamped) (qs : List PushKey) → ((u : UserId) (m : MessageId) → has_push qs u m ≡ is_push_active j u m)
+    → changed_all (map Put (user_rows_from j 1 (people j)) ++ (map Put (message_rows_from j 1 (messages j)) ++ (map Put (map notice_row (all_pending j)) ++ (map Put (map active_row qs) ++ map Put (outbox_rows_from 1 (outbox j)))))) [] ≡ rows j
 rows-made j qs same =
-    let us = map Put (user_rows_from j 1 (people j)) in let ms = map Put (message_rows_from 1 (messages j)) in let ps = map Put (map notice_row (all_kept j)) in let os = map Put (outbox_rows_from 1 (outbox j)) in
+    let us = map Put (user_rows_from j 1 (people j)) in let ms = map Put (message_rows_from j 1 (messages j)) in let ps = map Put (map notice_row (all_pending j)) in let os = map Put (outbox_rows_from 1 (outbox j)) in
     changed_all-same (us ++ (ms ++ (ps ++ (map Put (map active_row qs) ++ os)))) [] (rows j) IsAscending-nil (rows-ascending j) (λ k.
-    own_changes k us ms ps (map Put (map active_row qs)) os None (record { users = users_are j 1 (people j); messages = messages_are 1 (messages j); pending = waiting_are (all_kept j); active = active_are qs; outbox = outbox_are 1 (outbox j) })
+    own_changes k us ms ps (map Put (map active_row qs)) os None (record { users = users_are j 1 (people j); messages = messages_are j 1 (messages j); pending = waiting_are (all_pending j); active = active_are qs; outbox = outbox_are 1 (outbox j) })
     ∙ (by k ∙ sym (row_at-rows k j)))
   where
-    by : (k : RowKey) → row_after_all k (own k (map Put (user_rows_from j 1 (people j))) (map Put (message_rows_from 1 (messages j))) (map Put (map notice_row (all_kept j))) (map Put (map active_row qs)) (map Put (outbox_rows_from 1 (outbox j)))) None ≡ row_after_all k (own_puts k j) None
+    by : (k : RowKey) → row_after_all k (own k (map Put (user_rows_from j 1 (people j))) (map Put (message_rows_from j 1 (messages j))) (map Put (map notice_row (all_pending j))) (map Put (map active_row qs)) (map Put (outbox_rows_from 1 (outbox j)))) None ≡ row_after_all k (own_puts k j) None
     by (key.User u) = refl
     by (key.Message m) = refl
     by (key.Pending u m w) = refl
@@ -331,8 +337,8 @@ rows-nil = ap by_key (none_yet)
   where
     none_yet : listed_rows [] ≡ []
     none_yet =
-        ap (λ us. us ++ (message_rows_from 1 (messages []) ++ (filter_map (pending_row []) (notices []) ++ (filter_map (ledger.active_row []) (notices []) ++ outbox_rows_from 1 (outbox []))))) (ap (user_rows_from [] 1) people-nil)
-        ∙ (ap (λ ms. ms ++ (filter_map (pending_row []) (notices []) ++ (filter_map (ledger.active_row []) (notices []) ++ outbox_rows_from 1 (outbox [])))) (ap (message_rows_from 1) messages-nil)
+        ap (λ us. us ++ (message_rows_from [] 1 (messages []) ++ (filter_map (pending_row []) (notices []) ++ (filter_map (ledger.active_row []) (notices []) ++ outbox_rows_from 1 (outbox []))))) (ap (user_rows_from [] 1) people-nil)
+        ∙ (ap (λ ms. ms ++ (filter_map (pending_row []) (notices []) ++ (filter_map (ledger.active_row []) (notices []) ++ outbox_rows_from 1 (outbox [])))) (ap (message_rows_from [] 1) messages-nil)
         ∙ (ap (λ ns. filter_map (pending_row []) ns ++ (filter_map (ledger.active_row []) ns ++ outbox_rows_from 1 (outbox []))) notices-nil ∙ ap (outbox_rows_from 1) outbox-nil))
 
 -- the rows after a lawful event are the rows before it with what was prepared for it

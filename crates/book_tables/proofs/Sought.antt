@@ -1,5 +1,5 @@
 -- The notices that wait in their order: what a binary search finds, and what a change of what it found makes of the list.
-use Rattle.std.proofs.Common.{◌≡◌, ℕ, zero, suc, ◌+◌, ◌-◌, ◌<◌, ◌≤◌, Bool, true, false, ◌&&◌, ◌||◌, ◌==◌, not, cond, List, [], ◌∷◌, ◌++◌, length, map, take, drop, get_or, set, Some, refl, sym, ap, ◌∙◌, inl, inr, arith}
+use Rattle.std.proofs.Common.{subst, ◌≡◌, ℕ, zero, suc, ◌+◌, ◌-◌, ◌<◌, ◌≤◌, Bool, true, false, ◌&&◌, ◌||◌, ◌==◌, not, cond, List, [], ◌∷◌, ◌++◌, length, map, take, drop, get_or, set, Some, refl, sym, ap, ◌∙◌, inl, inr, arith}
 use Rattle.std.specs.Prelude.{IsPermutation, filter, slice_get, nat_lt, nat_le}
 use Rattle.std.specs.List.{AllByRecursion, AllWithin, flat_map, list_any}
 use Rattle.std.specs.List.Sorted.{IsPartitionedBy, IsPartitionPoint, IsNonDecreasingBy}
@@ -16,7 +16,7 @@ use Rattle.std.proofs.lemmas.List.{append-nil, append_assoc, map-append, take-ap
 use Rattle.std.proofs.lemmas.List.Elements.{filter-append}
 use Rattle.std.proofs.lemmas.List.Sorted.{list_any-IsPermutation}
 use Rattle.std.proofs.Math.Bool.{and-true}
-use Rattle.notice_ledger.proofs.Batches.{filter_same}
+use Rattle.notice_ledger.proofs.Lists.{filter_same}
 use Rattle.book_tables.proofs.Permuted.{Has, has-all}
 use Rattle.notice_ledger.proofs.Lists.{AllByRecursion-weaker, filter-filter, filter_all, filter_same_where}
 use Rattle.chat_model.specs.declared.row.Stage.{Stage}
@@ -371,7 +371,7 @@ same_number : (a b : ℕ) → eqb a b ≡ eqb b a
 same_number a b = grind (arith, nat_tests)
 
 -- one more deal: by mail and by push
-named-more : (u : UserId) (deals : List DealNo) (k : DealNo) (w : Waiting) → ((is_named u deals w || is_at k u Mail w) || is_at k u Push w) ≡ is_named u (deals ++ k ∷ []) w
+pub named-more : (u : UserId) (deals : List DealNo) (k : DealNo) (w : Waiting) → ((is_named u deals w || is_at k u Mail w) || is_at k u Push w) ≡ is_named u (deals ++ k ∷ []) w
 named-more u deals k w =
     by (w.user.0 == u.0) (has_deal deals w.deal) (w.deal.0 == k.0) w.way
     ∙ ap (λ b. w.user.0 == u.0 && b) (ap (λ b. has_deal deals w.deal || b) (same_number w.deal.0 k.0) ∙ sym (dealt-more deals k w.deal))
@@ -541,6 +541,18 @@ only-is test (w ∷ ws) zero x v only at (inl same) passes = sym (first at) ∙ 
 only-is test (w ∷ ws) zero x v only at (inr later) passes = absurd (none-has test ws v only.1 later passes)
 only-is test (w ∷ ws) (suc i) x v only at (inl same) passes = absurd (false≢true (sym only.0 ∙ (ap test same ∙ passes)))
 only-is test (w ∷ ws) (suc i) x v only at (inr later) passes = only-is test ws i x v only.1 at later passes
+
+-- each that passes the test is the one that alone does
+pub only-each : (test : Waiting → Bool) (ws : List Waiting) (i : ℕ) (x : Waiting) → IsOnly test ws i → slice_get ws i ≡ Some x → AllByRecursion (λ w. test w ≡ true → x ≡ w) ws
+only-each test ws i x only at =
+    AllByRecursion-weaker (λ w. Has w ws) (λ w. test w ≡ true → x ≡ w) (λ w has passes. only-is test ws i x w only at has passes) ws (has-all ws)
+
+-- what is so of each that a list has
+pub has-so : (P : Waiting → Type 0) (ws : List Waiting) (v : Waiting) → AllByRecursion P ws → Has v ws → P v
+unfolding Has
+has-so P [] v all has = absurd has
+has-so P (w ∷ ws) v all (inl same) = subst P same all.0
+has-so P (w ∷ ws) v all (inr later) = has-so P ws v all.1 later
 
 -- a ready mail's message is one of those of the user's
 message-listed : (u : UserId) (w : Waiting) (vs : List Waiting) → Has w vs → is_ready_mail_to u w ≡ true → list_any (λ m. w.message.0 == m.0) (messages_to u vs) ≡ true

@@ -1,11 +1,12 @@
 -- Tables that hold what lawful events leave are sound, and so is what is prepared for the next event.
-use Rattle.std.proofs.Common.{◌≡◌, ℕ, ◌+◌, ◌≤◌, true, cond, List, [], ◌∷◌, ◌++◌, refl, sym, ap, ◌∙◌, subst}
-use Rattle.std.specs.Prelude.{Some, None, IfSome, IsPermutation, nat_le, slice_get}
+use Rattle.chat_model.specs.declared.row.Cause.{Cause}
+use Rattle.std.proofs.Common.{◌≢◌, ◌≡◌, ℕ, ◌+◌, ◌≤◌, true, cond, List, [], ◌∷◌, ◌++◌, refl, sym, ap, ◌∙◌, subst}
+use Rattle.std.specs.Prelude.{Option, Some, None, IfSome, IsPermutation, nat_le, slice_get}
 use Rattle.std.proofs.lemmas.Bool.{and_parts, eq-eqb}
 use Rattle.chat_model.specs.declared.event.Stamped.{Stamped}
 use Rattle.chat_model.specs.declared.event.Event.{Event}
 use Rattle.chat_model.specs.declared.event.Event.TheVariants.{Restart, Asked, Absorbed, MailTurn, PushTurn}
-use Rattle.chat_model.specs.declared.request.Request.TheVariants.{AddUser, AddGroup, Member, AddChannel, Subscribe, Set, SetChannel, SetPolicy, Mute, Send, Direct}
+use Rattle.chat_model.specs.declared.request.Request.TheVariants.{AddUser, AddGroup, Member, AddChannel, Subscribe, Set, SetChannel, SetPolicy, Mute, Send, Direct, Delete, Read}
 use Rattle.chat_model.specs.declared.deal.Outcome.TheVariants.{Dealt, Cleared, Missed}
 use Rattle.chat_model.specs.declared.deal.Deal.{Deal}
 use Rattle.chat_model.specs.declared.deal.UserVerdict.{UserVerdict}
@@ -37,11 +38,11 @@ use Rattle.book_tables.specs.declared.tables.Waiting.{Waiting}
 use Rattle.book_tables.specs.Applied.{Fits}
 use Rattle.book_tables.specs.Batched.{period_in, messages_to, IsSound}
 use Rattle.book_tables.specs.Preferences.{Preferred, preferred_by, preferred_after}
-use Rattle.book_tables.specs.Prepared.{IsGroup, IsMessage, IsStart, IsDealt, IsMissed, IsMailed, IsPushed, IsEffectOf, WasPrepared}
+use Rattle.book_tables.specs.Prepared.{IsGroup, IsMessage, IsStart, IsDealt, IsMissed, IsMailed, IsPushed, IsRemoved, IsBarred, IsEffectOf, WasPrepared}
 use Rattle.book_tables.specs.Tables.{StandsFor}
 use Rattle.book_tables.proofs.BatchesAfter.{held_due}
-use Rattle.book_tables.proofs.Kept.{messages-kept}
-use Rattle.book_tables.proofs.Ordered.{in_order, numbered_so}
+use Rattle.book_tables.proofs.Kept.{holds-kept, messages-kept}
+use Rattle.book_tables.proofs.Ordered.{in_order, numbered_so, cleared_in_order, cleared_numbered_so, active_in_order, active_numbered_so}
 use Rattle.book_tables.proofs.PreferenceLemmas.{after-setting}
 
 module _ (t : Tables) (j : List Stamped) (stands : StandsFor t j) where
@@ -55,9 +56,13 @@ module _ (t : Tables) (j : List Stamped) (stands : StandsFor t j) where
   sound = record {
     order = in_order t (lawful j) stands;
     numbered = numbered_so t (lawful j) stands;
+    cleared_order = cleared_in_order t (lawful j) stands;
+    cleared_numbered = cleared_numbered_so t (lawful j) stands;
+    active_order = active_in_order t (lawful j) stands;
+    active_numbered = active_numbered_so t (lawful j) stands;
     batches = record {
       rows = λ u.
-          subst (λ (ms : List MessageId). IsPermutation ms (rows_of t.batches u)) (sym (ap (messages_to u) stands.waiting ∙ messages-kept u (lawful j))) (stands.batches.rows u);
+          subst (λ (ms : List MessageId). IsPermutation ms (rows_of t.batches u)) (sym (ap (messages_to u) (holds-kept t (lawful j) stands) ∙ messages-kept u (lawful j))) (stands.batches.rows u);
       periods = bounded;
     };
     due = λ u.
@@ -70,45 +75,70 @@ module _ (t : Tables) (j : List Stamped) (stands : StandsFor t j) where
 
   of_group : (e : Effect) (g : GroupName) (us : List UserId) → IsGroup e g us → Fits t e
   of_group (effect.Preference user change) g us fits = absurd fits
-  of_group (effect.Pushed user message entry) g us fits = absurd fits
+  of_group (effect.Pushed user message entry off) g us fits = absurd fits
+  of_group (effect.Removed user those entry) g us fits = absurd fits
   of_group e g us fits = tt
 
-  of_message : (e : Effect) (m : Message) (ws : List Waiting) (d : Deal) → IsMessage e m ws d → Fits t e
+  of_message : (e : Effect) (m : Message) (ws : List Waiting) (d : Deal) → IsMessage (lawful j) e m ws d → Fits t e
   of_message (effect.Preference user change) m ws d fits = absurd fits
-  of_message (effect.Pushed user message entry) m ws d fits = absurd fits
+  of_message (effect.Pushed user message entry off) m ws d fits = absurd fits
+  of_message (effect.Removed user those entry) m ws d fits = absurd fits
   of_message e m ws d fits = tt
 
   of_start : (e : Effect) (is : List PushItem) → IsStart e is → Fits t e
   of_start (effect.Preference user change) is fits = absurd fits
-  of_start (effect.Pushed user message entry) is fits = absurd fits
+  of_start (effect.Pushed user message entry off) is fits = absurd fits
+  of_start (effect.Removed user those entry) is fits = absurd fits
   of_start e is fits = tt
 
   of_dealt : (e : Effect) (k : DealNo) (verdicts : List UserVerdict) (is : List PushItem) → IsDealt e k verdicts is → Fits t e
   of_dealt (effect.Preference user change) k verdicts is fits = absurd fits
-  of_dealt (effect.Pushed user message entry) k verdicts is fits = absurd fits
+  of_dealt (effect.Pushed user message entry off) k verdicts is fits = absurd fits
+  of_dealt (effect.Removed user those entry) k verdicts is fits = absurd fits
   of_dealt e k verdicts is fits = tt
 
   of_missed : (e : Effect) (u : UserId) (ks : List DealNo) (is : List PushItem) → IsMissed e u ks is → Fits t e
   of_missed (effect.Preference user change) u ks is fits = absurd fits
-  of_missed (effect.Pushed user message entry) u ks is fits = absurd fits
+  of_missed (effect.Pushed user message entry off) u ks is fits = absurd fits
+  of_missed (effect.Removed user those entry) u ks is fits = absurd fits
   of_missed e u ks is fits = tt
 
   of_mailed : (e : Effect) (u : UserId) (es : List Entry) (h n : ℕ) → IsMailed e u es h n → Fits t e
   of_mailed (effect.Preference user change) u es h n fits = absurd fits
-  of_mailed (effect.Pushed user message entry) u es h n fits = absurd fits
+  of_mailed (effect.Pushed user message entry off) u es h n fits = absurd fits
+  of_mailed (effect.Removed user those entry) u es h n fits = absurd fits
   of_mailed e u es h n fits = tt
 
-  -- a push turn that may stand takes an item that waits
-  of_pushed : (at : ℕ) (u : UserId) (m : MessageId) (e : Effect) (es : List Entry) → is_lawful_after j (record { at = at; event = PushTurn (item.Notify u m) }) ≡ true → IsPushed e u m es → Fits t e
-  of_pushed at u m (effect.Preference user change) es next fits = absurd fits
-  of_pushed at u m (effect.Pushed user message entry) es next fits =
-      let may = (and_parts (nat_le (last_stamp (lawful j)) at) (may_stand (lawful j) at (PushTurn (item.Notify u m))) next).1 in
-      let first = turned_first (lawful j) at (item.Notify u m) may in
+  -- a turn that may stand takes an item that waits
+  some_waits : (at : ℕ) (i : PushItem) → is_lawful_after j (record { at = at; event = PushTurn i }) ≡ true → t.pushes.items ≢ []
+  some_waits at i next =
+      let may = (and_parts (nat_le (last_stamp (lawful j)) at) (may_stand (lawful j) at (PushTurn i)) next).1 in
+      let first = turned_first (lawful j) at i may in
       λ none. no_first (ap (λ (is : List PushItem). slice_get is 0) (sym none ∙ stands.items) ∙ first)
     where
-      no_first : None ≡ Some (item.Notify u m) → ⊥
+      no_first : None ≡ Some i → ⊥
       no_first e = cc
-  of_pushed at u m e es next fits = tt
+
+  -- so does a push turn
+  of_pushed : (at : ℕ) (u : UserId) (m : MessageId) (e : Effect) (es : List Entry) (n : ℕ) → is_lawful_after j (record { at = at; event = PushTurn (item.Notify u m) }) ≡ true → IsPushed e u m es n → Fits t e
+  of_pushed at u m (effect.Preference user change) es n next fits = absurd fits
+  of_pushed at u m (effect.Removed user those entry) es n next fits = absurd fits
+  of_pushed at u m (effect.Pushed user message entry off) es n next fits = some_waits at (item.Notify u m) next
+  of_pushed at u m e es n next fits = tt
+
+  -- and so does the turn of a removal
+  of_removed : (at : ℕ) (u : UserId) (ms : List MessageId) (e : Effect) (es : List Entry) → is_lawful_after j (record { at = at; event = PushTurn (item.Remove u ms) }) ≡ true → IsRemoved e u ms es → Fits t e
+  of_removed at u ms (effect.Preference user change) es next fits = absurd fits
+  of_removed at u ms (effect.Pushed user message entry off) es next fits = absurd fits
+  of_removed at u ms (effect.Removed user those entry) es next fits = some_waits at (item.Remove u ms) next
+  of_removed at u ms e es next fits = tt
+
+  -- a read or a deletion needs nothing
+  of_barred : (s : Stamped) (c : Cause) (m : Option MessageId) (e : Effect) → IsBarred (lawful j) s c m e → Fits t e
+  of_barred s c m (effect.Preference user change) fits = absurd fits
+  of_barred s c m (effect.Pushed user message entry off) fits = absurd fits
+  of_barred s c m (effect.Removed user those entry) fits = absurd fits
+  of_barred s c m e fits = tt
 
   -- the period that a lawful request sets isn't longer than the longest
   of_setting : (at : ℕ) (user : UserId) (change : SettingChange) → is_lawful_after j (record { at = at; event = Asked (Set user change) }) ≡ true → Fits t (effect.Preference user (preference.Setting change))
@@ -133,12 +163,14 @@ module _ (t : Tables) (j : List Stamped) (stands : StandsFor t j) where
   fits_so at (Asked (Mute user other on)) e next fits = subst (Fits t) (sym fits) (bounded user)
   fits_so at (Asked (Send sender channel topic text)) e next fits = of_message e _ _ _ fits
   fits_so at (Asked (Direct sender to text)) e next fits = of_message e _ _ _ fits
+  fits_so at (Asked (Delete user message)) e next fits = of_barred _ _ _ e fits
+  fits_so at (Asked (Read user messages)) e next fits = of_barred _ _ _ e fits
   fits_so at (Absorbed (Dealt k verdicts)) e next fits = of_dealt e k verdicts _ fits
   fits_so at (Absorbed (Cleared user deals queue)) e next fits = subst (Fits t) (sym fits) tt
   fits_so at (Absorbed (Missed user deals)) e next fits = of_missed e user deals _ fits
   fits_so at (MailTurn user) e next fits = of_mailed e user _ _ _ fits
-  fits_so at (PushTurn (item.Notify user message)) e next fits = of_pushed at user message e _ next fits
-  fits_so at (PushTurn (item.Remove user messages)) e next fits = absurd fits
+  fits_so at (PushTurn (item.Notify user message)) e next fits = of_pushed at user message e _ _ next fits
+  fits_so at (PushTurn (item.Remove user messages)) e next fits = of_removed at user messages e _ next fits
 
 pub sound_prepared : (t : Tables) (p : Prepared) → WasPrepared t p → IsSound t
 sound_prepared t p was = sound t was.0 was.2

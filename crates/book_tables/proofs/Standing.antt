@@ -12,22 +12,19 @@ use Rattle.chat_model.specs.declared.ids.GroupId.{GroupId}
 use Rattle.chat_model.specs.declared.mentions.UserName.{UserName}
 use Rattle.chat_model.specs.declared.mentions.GroupName.{GroupName}
 use Rattle.notice_ledger.specs.Past.Values.{numbered, Person, people, named_from, user_names, user_name, users, is_user, messages, deal_count, named_groups_from, groups, group_names, group_name, is_group, is_member, member_count, channels, subscribed, subscriber_count}
-use Rattle.notice_ledger.specs.Past.Owed.{waiting}
 use Rattle.notice_ledger.specs.Past.Refusals.{is_taken}
 use Rattle.chat_model.specs.declared.counts.Counts.{Counts}
-use Rattle.notice_ledger.specs.Past.Audit.{counts_of, in_64_bits}
+use Rattle.notice_ledger.specs.Past.Audit.{counts_of, in_64_bits, owed_with, removals_waiting}
+use Rattle.notice_ledger.specs.declared.accounts.Account.TheVariants.{LiveQueue}
 use Rattle.notice_ledger.proofs.Sent.{deal_count-messages}
-use Rattle.notice_ledger.specs.Past.Audit.{same_account}
-use Rattle.notice_ledger.specs.Past.Owed.{account_of}
 use Rattle.chat_model.specs.declared.row.Stage.{Stage}
 use Rattle.chat_model.specs.declared.row.Stage.TheVariants as stage
 use Rattle.notice_ledger.proofs.Sums.{sum_by_same}
-use Rattle.notice_ledger.proofs.Audited.{counts_of-waiting}
 use Rattle.book_tables.specs.declared.tables.Tables.{Tables}
 use Rattle.book_tables.specs.UserSets.{has_in, size_in}
 use Rattle.book_tables.specs.Tables.{Holds, message_kept}
-use Rattle.book_tables.specs.Notices.{is_at_stage}
-use Rattle.book_tables.proofs.Kept.{account_at, stages-kept}
+use Rattle.book_tables.specs.Notices.{is_at_stage, is_barred}
+use Rattle.book_tables.proofs.Kept.{account_at, holds-kept, stages-owed, cleared-owed, revoked-waits}
 use Rattle.book_tables.proofs.SetSizes.{size_in-counted}
 
 -- ---- lists
@@ -73,21 +70,20 @@ taken_from n (other ∷ names) name = ap (λ b. str_eq_ignore_ascii_case name ot
 count_same : (p q : UserId → Bool) → ((u : UserId) → p u ≡ q u) → (us : List UserId) → count_by p us ≡ count_by q us
 count_same p q same us = sum_by_same (λ u. cond (p u) 1 0) (λ u. cond (q u) 1 0) (λ u. ap (λ b. cond b 1 0) (same u)) us
 
--- the counts where so many notices wait at each stage, so many were handed over, switched off and cleared, and the outbox
--- has so many entries
-abbrev pub counted : ℕ → ℕ → ℕ → ℕ → ℕ → ℕ → ℕ → Counts
-counted flight held waits handed entries off live = record {
-  flight = in_64_bits flight;
-  held = in_64_bits held;
-  ready = in_64_bits waits;
-  handed = handed;
-  read = 0;
-  deleted = 0;
-  off = off;
-  live = live;
-  entries = in_64_bits entries;
-  waiting = 0;
-  written = 0;
+-- the counts by what the tables keep
+abbrev pub counted : Tables → Counts
+counted t = record {
+  flight = in_64_bits (length (filter (is_at_stage stage.Flight) t.waiting.items));
+  held = in_64_bits (length (filter (is_at_stage stage.Held) t.waiting.items));
+  ready = in_64_bits (length (filter (is_at_stage stage.Ready) t.waiting.items));
+  handed = t.handed;
+  read = t.read;
+  deleted = t.gone;
+  off = t.off;
+  live = in_64_bits (length t.cleared.items);
+  entries = in_64_bits (length t.outbox.items);
+  waiting = in_64_bits (length (filter is_barred t.active.items));
+  written = t.written;
 }
 
 module _ (t : Tables) (past : List Stamped) (holds : Holds t past) where
@@ -142,12 +138,31 @@ module _ (t : Tables) (past : List Stamped) (holds : Holds t past) where
   some-member (g ∷ gs) u = ap (λ b. b || list_any (λ (h : GroupId). has_in t.members.items h.0 u) gs) (holds.members g u) ∙ ap (λ b. is_member past g u || b) (some-member gs u)
 
   -- how many notices wait at a stage
-  stage-there : (g : Stage) → length (filter (is_at_stage g) t.waiting.items) ≡ count_by (λ n. same_account (account_of past n) (account_at g)) (waiting past)
-  stage-there g = ap (λ ws. length (filter (is_at_stage g) ws)) holds.waiting ∙ stages-kept g past
+  pub stage-there : (g : Stage) → length (filter (is_at_stage g) t.waiting.items) ≡ owed_with past (account_at g)
+  stage-there g = ap (λ ws. length (filter (is_at_stage g) ws)) (holds-kept t past holds) ∙ stages-owed g past
 
-  pub counts-there : counted (length (filter (is_at_stage stage.Flight) t.waiting.items)) (length (filter (is_at_stage stage.Held) t.waiting.items)) (length (filter (is_at_stage stage.Ready) t.waiting.items)) t.handed (length t.outbox.items) t.off t.live ≡ counts_of past
-  counts-there =
-      (λ i. counted (stage-there stage.Flight i) (stage-there stage.Held i) (stage-there stage.Ready i) (holds.handed i) (length (holds.outbox i)) (holds.off i) (holds.live i)) ∙ sym (counts_of-waiting past)
+  -- how many a live queue cleared
+  pub cleared-there : length t.cleared.items ≡ owed_with past LiveQueue
+  cleared-there = ap length holds.cleared ∙ cleared-owed past
+
+  -- how many revoked pushes have their removal waiting
+  pub revoked-there : length (filter is_barred t.active.items) ≡ removals_waiting past
+  revoked-there = ap (λ ws. length (filter is_barred ws)) holds.active ∙ revoked-waits past
+
+  pub counts-there : counted t ≡ counts_of past
+  counts-there = (λ i. record {
+    flight = in_64_bits (stage-there stage.Flight i);
+    held = in_64_bits (stage-there stage.Held i);
+    ready = in_64_bits (stage-there stage.Ready i);
+    handed = holds.handed i;
+    read = holds.read i;
+    deleted = holds.gone i;
+    off = holds.off i;
+    live = in_64_bits (cleared-there i);
+    entries = in_64_bits (length (holds.outbox i));
+    waiting = in_64_bits (revoked-there i);
+    written = holds.written i;
+  })
 
   -- ---- how many there are
 

@@ -9,7 +9,7 @@ use Rattle.std.proofs.lemmas.Bool.Decides.{eqb_tells}
 use Rattle.chat_model.specs.declared.event.Stamped.{Stamped}
 use Rattle.chat_model.specs.declared.event.Event.{Event}
 use Rattle.chat_model.specs.declared.event.Event.TheVariants.{Restart, Asked, Absorbed, MailTurn, PushTurn}
-use Rattle.chat_model.specs.declared.request.Request.TheVariants.{AddUser, AddGroup, Member, AddChannel, Subscribe, Set, SetChannel, SetPolicy, Mute, Send, Direct}
+use Rattle.chat_model.specs.declared.request.Request.TheVariants.{AddUser, AddGroup, Member, AddChannel, Subscribe, Set, SetChannel, SetPolicy, Mute, Send, Direct, Delete, Read}
 use Rattle.chat_model.specs.declared.ids.UserId.{UserId}
 use Rattle.chat_model.specs.declared.row.Row.{Row}
 use Rattle.chat_model.specs.declared.row.Row.TheVariants as row
@@ -176,6 +176,8 @@ users-after u j s (Asked (SetPolicy user channel topic policy)) is = left j s u 
 users-after u j s (Asked (Mute user other on)) is = left j s u (ap person_of is) (ap (setting_change u) is)
 users-after u j s (Asked (Send sender channel topic text)) is = left j s u (ap person_of is) (ap (setting_change u) is)
 users-after u j s (Asked (Direct sender to text)) is = left j s u (ap person_of is) (ap (setting_change u) is)
+users-after u j s (Asked (Delete user message)) is = left j s u (ap person_of is) (ap (setting_change u) is)
+users-after u j s (Asked (Read user messages)) is = left j s u (ap person_of is) (ap (setting_change u) is)
 users-after u j s (Absorbed outcome) is = left j s u (ap person_of is) (ap (setting_change u) is)
 users-after u j s (MailTurn user) is = left j s u (ap person_of is) (ap (setting_change u) is)
 users-after u j s (PushTurn item) is = left j s u (ap person_of is) (ap (setting_change u) is)

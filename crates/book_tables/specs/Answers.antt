@@ -2,7 +2,7 @@
 use Rattle.std.specs.Prelude.{◌+◌, List, length}
 use Rattle.chat_model.specs.declared.event.Stamped.{Stamped}
 use Rattle.chat_model.specs.declared.request.Request.{Request}
-use Rattle.chat_model.specs.declared.request.Request.TheVariants.{AddUser, AddGroup, Member, AddChannel, Subscribe, Set, SetChannel, SetPolicy, Mute, Send, Direct}
+use Rattle.chat_model.specs.declared.request.Request.TheVariants.{AddUser, AddGroup, Member, AddChannel, Subscribe, Set, SetChannel, SetPolicy, Mute, Send, Direct, Delete, Read}
 use Rattle.chat_model.specs.declared.request.Answer.{Answer}
 use Rattle.chat_model.specs.declared.request.Answer.TheVariants as answer
 use Rattle.notice_ledger.specs.Past.Values.{people, groups, channels, messages, deal_count}
@@ -21,6 +21,8 @@ answer_after past (SetPolicy user channel topic policy) = answer.Done
 answer_after past (Mute user other on) = answer.Done
 answer_after past (Send sender channel topic text) = answer.Sent (record { 0 = length (messages past) + 1 }) (record { 0 = deal_count past })
 answer_after past (Direct sender to text) = answer.Sent (record { 0 = length (messages past) + 1 }) (record { 0 = deal_count past })
+answer_after past (Delete user message) = answer.Done
+answer_after past (Read user messages) = answer.Done
 
 -- the answer to a request that is not refused, after any list of events
 abbrev pub answer_of : List Stamped → Request → Answer

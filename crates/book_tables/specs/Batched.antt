@@ -35,6 +35,10 @@ pub record KeepsBatches (t : Tables) : Type 0 where
 pub record IsSound (t : Tables) : Type 0 where
   pub order : IsInOrder t.waiting.items
   pub numbered : AreNumbered t.waiting.items
+  pub cleared_order : IsInOrder t.cleared.items
+  pub cleared_numbered : AreNumbered t.cleared.items
+  pub active_order : IsInOrder t.active.items
+  pub active_numbered : AreNumbered t.active.items
   pub batches : KeepsBatches t
   pub due : (u : UserId) → IfSome (due_of t.batches u) (λ due. (period_in t.preferences.items u ≤ due) × (due ≤ t.last + period_in t.preferences.items u))
 

@@ -2,7 +2,9 @@ pub mod UserSets
 pub mod TopicKeys
 pub mod Preferences
 pub mod Notices
+pub mod Receipts
 pub mod Pushes
+pub mod Bars
 pub mod Tables
 pub mod Gathered
 pub mod Rules

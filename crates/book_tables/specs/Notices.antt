@@ -1,5 +1,6 @@
 -- The notices that wait, as the tables keep them: which one is sought, in which order they stand, and how one moves on.
-use Rattle.std.specs.Prelude.{◌≡◌, ℕ, zero, suc, ◌+◌, ◌-◌, Bool, true, false, not, ◌&&◌, ◌||◌, ◌==◌, nat_lt, List, [], ◌∷◌, Option, Some, None, take, drop}
+use Rattle.std.specs.Prelude.{◌≡◌, ℕ, zero, suc, ◌+◌, ◌-◌, Bool, true, false, not, ◌&&◌, ◌||◌, ◌==◌, nat_lt, List, [], ◌∷◌, Option, Some, None, is_some, take, drop, if◌then◌else◌}
+use Rattle.std.specs.Option.{option_or}
 use Rattle.std.specs.List.{AllByRecursion, flat_map, list_any}
 use Rattle.chat_model.specs.declared.ids.DealNo.{DealNo}
 use Rattle.chat_model.specs.declared.ids.MessageId.{MessageId}
@@ -8,6 +9,7 @@ use Rattle.chat_model.specs.declared.trigger.Way.{Way}
 use Rattle.chat_model.specs.declared.trigger.Way.TheVariants.{Mail, Push}
 use Rattle.chat_model.specs.Outcomes.{has_deal}
 use Rattle.notice_ledger.specs.Past.Values.{is_one_of}
+use Rattle.chat_model.specs.declared.row.Cause.{Cause}
 use Rattle.chat_model.specs.declared.row.Stage.{Stage}
 use Rattle.chat_model.specs.declared.row.Stage.TheVariants.{Flight, Held, Ready}
 use Rattle.book_tables.specs.declared.tables.Waiting.{Waiting}
@@ -31,9 +33,13 @@ same_stage Held Held = true
 same_stage Ready Ready = true
 same_stage _ _ = false
 
--- it has come this far and no further
+-- something bars it
+abbrev pub is_barred : Waiting → Bool
+is_barred w = is_some w.barred
+
+-- it has come this far and no further, and nothing bars it
 abbrev pub is_at_stage : Stage → Waiting → Bool
-is_at_stage g w = same_stage w.stage g
+is_at_stage g w = not (is_barred w) && same_stage w.stage g
 
 -- a user's mail notice stands before the push
 abbrev pub rank : Way → ℕ
@@ -106,6 +112,21 @@ abbrev pub IsInOrder : List Waiting → Type 0
 IsInOrder [] = Unit {0}
 IsInOrder (w ∷ ws) = AllByRecursion (Precedes w) ws × IsInOrder ws
 
+-- none stands before one in front of it
+abbrev pub AreSorted : List Waiting → Type 0
+AreSorted [] = Unit {0}
+AreSorted (w ∷ ws) = AllByRecursion (λ v. is_before w.deal w.user w.way v ≡ false) ws × AreSorted ws
+
+-- a notice before those that don't stand before it
+abbrev pub put_in_order : Waiting → List Waiting → List Waiting
+put_in_order w [] = w ∷ []
+put_in_order w (v ∷ vs) = if is_before w.deal w.user w.way v then v ∷ put_in_order w vs else w ∷ v ∷ vs
+
+-- and so each of these
+abbrev pub put_all_in_order : List Waiting → List Waiting → List Waiting
+put_all_in_order [] vs = vs
+put_all_in_order (w ∷ ws) vs = put_all_in_order ws (put_in_order w vs)
+
 -- each is of the message of its deal: each send makes one
 abbrev pub AreNumbered : List Waiting → Type 0
 AreNumbered ws = AllByRecursion (λ w. w.message.0 ≡ w.deal.0 + 1) ws
@@ -156,6 +177,10 @@ moved readies w = record w { stage = dealt_by readies w.stage }
 -- its user was found idle, or live while it is a push that goes to who is online
 abbrev pub goes_ready : List UserId → List UserId → Waiting → Bool
 goes_ready idle live w = is_one_of idle w.user || (w.online && is_one_of live w.user)
+
+-- what barred it first counts
+abbrev pub barred_by : Cause → Waiting → Waiting
+barred_by cause w = record w { barred = option_or w.barred (Some cause) }
 
 -- where its deal is dealt
 abbrev pub dealt_to : List UserId → List UserId → Waiting → Waiting

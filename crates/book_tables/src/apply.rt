@@ -1,23 +1,26 @@
 //! How an effect is made in the tables: first the room for it, then the effect, which cannot fail.
-ghost use Rattle.std.specs.Prelude.{◌≡◌, ◌≢◌, ◌≤◌, true, List, ◌∷◌, [], ◌++◌, length, map, OnOk};
+ghost use Rattle.std.specs.Vec.{vec_len, vec_capacity};
+ghost use Rattle.std.specs.Prelude.{◌≡◌, ◌≢◌, ◌≤◌, ◌<◌, ◌+◌, ◌*◌, true, List, ◌∷◌, [], ◌++◌, length, map, OnOk};
 ghost use Rattle.chat_model.specs.declared.event.Stamped.{Stamped};
 ghost use Rattle.notice_ledger.specs.Lawful.{is_lawful_after};
 ghost use Rattle.book_tables.specs.Batched.{IsSound};
 ghost use Rattle.book_tables.specs.Pushes.{item_of};
-ghost use Rattle.book_tables.specs.Applied.{Fits, IsApplied, IsCleared, IsChanged, IsSettled, HadTurn, HoldTheSame};
+ghost use Rattle.book_tables.specs.Applied.{Fits, IsApplied, IsCleared, IsChanged, IsSettled, HadTurn, HadRemoval, AreBarred, counted_for, HoldTheSame};
 ghost use Rattle.book_tables.specs.Rooms.{HasRoom, HasRoomFor};
 ghost use Rattle.book_tables.specs.Prepared.{IsPreparedFor, WasPrepared};
 
+use crate::bars::{bar_all_waiting, revoke_all, take_all_cleared, take_removed};
 use crate::preferences::{
     Preference, Preferences, change_preference, period_of, reserve_preference,
 };
 use crate::prepared::{Effect, Prepared};
 use crate::pushes::PushKey;
+use crate::receipts::set_mark_of;
 use crate::sets::{change_set, reserve_in_set};
 use crate::tables::Tables;
 use crate::user_set::UserSet;
-use crate::waiting::{clear_named, find_deal, take_batch_rows, take_ready};
-use chat_model::{DealNo, Entry, MessageId, Moment, OutOfMemory, UserId, Way};
+use crate::waiting::{clear_named, find_deal, put_taken, take_batch_rows, take_ready};
+use chat_model::{Cause, DealNo, Entry, MessageId, Moment, OutOfMemory, PushItem, UserId, Way};
 
 impl Tables {
     ghost use Rattle.book_tables.specs.Tables.{StandsFor};
@@ -37,7 +40,11 @@ impl Tables {
                 self.batches.reserve(stretch.to - stretch.from)?;
                 self.pushes.reserve(pushes.len(), 0)
             }
-            Effect::Cleared { .. } => Ok(()),
+            Effect::Cleared { deals, .. } => {
+                self.cleared
+                    .reserve(deals.as_slice().len().saturating_mul(2))?;
+                Ok(())
+            }
             Effect::Missed { deals, pushes, .. } => {
                 self.batches.reserve(deals.as_slice().len())?;
                 self.pushes.reserve(pushes.len(), 0)
@@ -69,6 +76,8 @@ impl Tables {
             }
             Effect::Message { waiting, .. } => {
                 self.messages.reserve(1)?;
+                self.addressees.reserve(1)?;
+                self.deleted.reserve(1)?;
                 self.deals.reserve(1)?;
                 self.waiting.reserve(waiting.len())?;
                 Ok(())
@@ -83,17 +92,20 @@ impl Tables {
                 Ok(())
             }
             Effect::Pushed { entry: None, .. } => Ok(()),
+            Effect::Barred { removals, .. } => self.pushes.reserve(removals.len(), 0),
+            Effect::Removed { .. } => {
+                self.outbox.reserve(1)?;
+                Ok(())
+            }
         }
     }
 
-    /// Takes a user's undecided notices of these deals out, and counts them.
+    /// Moves a user's undecided notices of these deals to those that a live queue cleared.
     fn clear(&mut self, user: UserId, deals: &[DealNo])
+        requires { vec_len self.old.cleared + 2 * length deals.now ≤ vec_capacity self.old.cleared }
         ensures { IsCleared self.old self.new user deals.now }
     {
-        let before = self.waiting.len();
-        clear_named(&mut self.waiting, user, deals);
-        let cleared = before.saturating_sub(self.waiting.len());
-        self.live = self.live.saturating_add(cleared as u64);
+        clear_named(&mut self.waiting, &mut self.cleared, user, deals);
     }
 
     /// Changes what the user prefers. A new period moves the user's due moment by itself less the old one.
@@ -123,22 +135,71 @@ impl Tables {
     }
 
     /// Takes the turn of the item that waits longest, which is that of the user's push of a message.
-    fn take_turn(&mut self, user: UserId, message: MessageId, entry: Option<Entry>)
+    fn take_turn(&mut self, user: UserId, message: MessageId, entry: Option<Entry>, off: u64)
         requires sound { IsSound self.old }
         requires waits { self.old.pushes.items ≢ [] }
-        requires room { HasRoom self.old (Effect.Pushed user message entry) }
-        ensures { HadTurn self.old self.new user message entry }
+        requires room { HasRoom self.old (Effect.Pushed user message entry off) }
+        ensures { HadTurn self.old self.new user message entry off }
     {
         self.pushes.drop_oldest();
-        take_ready(&mut self.waiting, user, message, Way::Push);
-        match entry {
-            Some(entry) => {
-                self.active.push_reserved(PushKey { user, message });
-                self.outbox.push_reserved(entry);
-                self.handed = self.handed.saturating_add(1);
-            }
-            None => self.off = self.off.saturating_add(1),
+        let taken = take_ready(&mut self.waiting, user, message, Way::Push);
+        self.off = self.off.saturating_add(off);
+        if let Some(entry) = entry {
+            put_taken(&mut self.active, taken);
+            self.outbox.push_reserved(entry);
+            self.handed = self.handed.saturating_add(1);
         }
+    }
+
+    /// Takes the turn of the item that waits longest, which is the removal of the user's pushes of these messages.
+    fn take_removal(&mut self, user: UserId, messages: &[MessageId], entry: Entry)
+        requires sound { IsSound self.old }
+        requires waits { self.old.pushes.items ≢ [] }
+        requires room { vec_len self.old.outbox < vec_capacity self.old.outbox }
+        ensures { HadRemoval self.old self.new user messages.now entry }
+    {
+        self.pushes.drop_oldest();
+        let before = self.active.len();
+        take_removed(&mut self.active, user, messages);
+        let removed = before.saturating_sub(self.active.len());
+        self.written = self.written.saturating_add(removed as u64);
+        self.outbox.push_reserved(entry);
+    }
+
+    /// Counts so many notices as cancelled for this cause.
+    fn count_cancelled(&mut self, cause: Cause, cancelled: u64)
+        ensures rest { self.new ≡ record self.old { read = self.new.read; gone = self.new.gone; off = self.new.off } }
+        ensures read { self.new.read ≡ counted_for cause Cause.Read cancelled self.old.read }
+        ensures gone { self.new.gone ≡ counted_for cause Cause.Deleted cancelled self.old.gone }
+        ensures off { self.new.off ≡ counted_for cause Cause.SwitchedOff cancelled self.old.off }
+    {
+        match cause {
+            Cause::Read => self.read = self.read.saturating_add(cancelled),
+            Cause::Deleted => self.gone = self.gone.saturating_add(cancelled),
+            Cause::SwitchedOff => self.off = self.off.saturating_add(cancelled),
+        }
+    }
+
+    /// Adds items that remove pushes.
+    fn add_removals(&mut self, removals: Vec<PushItem>)
+        requires { length removals.items ≤ self.old.pushes.item_room }
+        ensures rest { self.new ≡ record self.old { pushes = self.new.pushes } }
+        ensures items { self.new.pushes.items ≡ self.old.pushes.items ++ removals.items }
+    {
+        for item in removals {
+            self.pushes.add(item);
+        }
+    }
+
+    /// Bars the notices of these pairs.
+    fn bar(&mut self, cause: Cause, deleted: Option<MessageId>, pairs: &[PushKey])
+        requires { IsSound self.old }
+        ensures { AreBarred self.old self.new cause deleted pairs.now }
+    {
+        set_mark_of(&mut self.deleted, deleted);
+        bar_all_waiting(&mut self.waiting, pairs, cause);
+        take_all_cleared(&mut self.cleared, pairs);
+        revoke_all(&mut self.active, pairs, cause);
     }
 
     /// Takes the user's batch rows out.
@@ -219,10 +280,13 @@ impl Tables {
             }
             Effect::Message {
                 message,
+                addressees,
                 mut waiting,
                 deal,
             } => {
                 self.messages.push_reserved(message);
+                self.addressees.push_reserved(addressees);
+                self.deleted.push_reserved(false);
                 self.deals.push_reserved(deal);
                 self.waiting.append(&mut waiting).unwrap();
                 return;
@@ -243,8 +307,29 @@ impl Tables {
                 user,
                 message,
                 entry,
+                off,
             } => {
-                self.take_turn(user, message, entry);
+                self.take_turn(user, message, entry, off);
+                return;
+            }
+            Effect::Barred {
+                cause,
+                deleted,
+                pairs,
+                cancelled,
+                removals,
+            } => {
+                self.bar(cause, deleted, &pairs);
+                self.count_cancelled(cause, cancelled);
+                self.add_removals(removals);
+                return;
+            }
+            Effect::Removed {
+                user,
+                messages,
+                entry,
+            } => {
+                self.take_removal(user, messages.as_slice(), entry);
                 return;
             }
         }

@@ -2,12 +2,12 @@
 ghost use Rattle.std.specs.Prelude.{◌≡◌, List, length, filter};
 ghost use Rattle.chat_model.specs.declared.event.Stamped.{Stamped};
 ghost use Rattle.notice_ledger.specs.Audit.{counts_of};
-ghost use Rattle.book_tables.specs.Notices.{is_at_stage};
+ghost use Rattle.book_tables.specs.Notices.{is_at_stage, is_barred};
 
 use crate::tables::{Tables, Waiting};
 use chat_model::{Counts, Stage};
 
-/// How many notices are at a stage.
+/// How many notices are at a stage, and barred by nothing.
 fn count_at(waiting: &[Waiting], stage: Stage) -> usize
     ensures { result ≡ length (filter (is_at_stage stage) waiting.now) }
 {
@@ -15,6 +15,13 @@ fn count_at(waiting: &[Waiting], stage: Stage) -> usize
         .iter()
         .filter(|notice| notice.is_at_stage(stage))
         .count()
+}
+
+/// How many of these pushes, which are active, are revoked.
+fn revoked_count(active: &[Waiting]) -> usize
+    ensures { result ≡ length (filter is_barred active.now) }
+{
+    active.iter().filter(|push| push.is_barred()).count()
 }
 
 impl Tables {
@@ -29,13 +36,13 @@ impl Tables {
             held: count_at(&self.waiting, Stage::Held) as u64,
             ready: count_at(&self.waiting, Stage::Ready) as u64,
             handed: self.handed,
-            read: 0,
-            deleted: 0,
+            read: self.read,
+            deleted: self.gone,
             off: self.off,
-            live: self.live,
+            live: self.cleared.len() as u64,
             entries: self.outbox.len() as u64,
-            waiting: 0,
-            written: 0,
+            waiting: revoked_count(&self.active) as u64,
+            written: self.written,
         }
     }
 }

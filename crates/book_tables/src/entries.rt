@@ -1,17 +1,19 @@
 //! The entries of a mail turn.
-ghost use Rattle.std.specs.Prelude.{◌≡◌, List, length, map, IfOk, IsPermutation};
+ghost use Rattle.std.specs.Prelude.{◌≡◌, true, List, Some, None, length, map, IfOk, IsPermutation, if◌then◌else◌};
+ghost use Rattle.std.specs.List.{AllByRecursion};
 ghost use Rattle.chat_model.specs.declared.event.Stamped.{Stamped};
 ghost use Rattle.notice_ledger.specs.Past.Owed.{Notice};
 ghost use Rattle.notice_ledger.specs.Past.Owed.{switch_on};
 ghost use Rattle.notice_ledger.specs.Past.Outbox.{mailed, conversation_of, ready_item, mail_items, mail_entries};
 ghost use Rattle.notice_ledger.specs.Outbox.{dropped};
+ghost use Rattle.book_tables.specs.Notices.{is_batch_row, is_barred, IsInOrder, AreNumbered};
 ghost use Rattle.book_tables.specs.Tables.{switched_at};
 
 use crate::tables::{Message, Tables, Waiting, item_at};
 use crate::waiting::find_ready;
 use chat_model::{
-    Conversation, Entry, GroupId, GroupName, Item, List as ItemList, Moment, OutOfMemory, Text,
-    UserId, Way, ascending_users,
+    Conversation, Entry, GroupId, GroupName, Item, List as ItemList, MessageId, Moment,
+    OutOfMemory, Text, UserId, Way, ascending_users,
 };
 use mail_batches::{ReadyItem, entries};
 use notice_ledger::Destination;
@@ -72,19 +74,47 @@ impl Tables {
         Ok(ReadyItem { conversation, item })
     }
 
-    /// What the user's mail turn hands over of the batch rows, each of which is sought among the notices that wait.
+    /// The user's batch row of a message, where it waits and nothing bars it.
+    fn mailed_notice(&self, user: UserId, message: MessageId) -> Option<Waiting>
+        ensures { IsInOrder self.now.waiting.items → AreNumbered self.now.waiting.items
+            → AllByRecursion (λ w. is_batch_row user message w ≡ true → result ≡ (if is_barred w then None else Some w)) self.now.waiting.items }
+    {
+        let place = find_ready(&self.waiting, user, message, Way::Mail)?;
+        let notice = self.waiting[place];
+        if notice.is_barred() {
+            None
+        } else {
+            Some(notice)
+        }
+    }
+
+    /// What the user's mail turn hands over of the batch rows, each of which is sought among the notices that wait. Those
+    /// that are barred are left out.
     fn ready_items(&self, user: UserId) -> Result<ItemList<ReadyItem>, OutOfMemory>
         ensures { IfOk result (λ items. (past : List Stamped) → Holds self.now past → IsPermutation (map (ready_item past) (mailed past user)) items) }
     {
         let mut items = ItemList::new(self.alloc);
         for message in self.batches.rows(user) {
-            if let Some(place) = find_ready(&self.waiting, user, *message, Way::Mail) {
+            if let Some(notice) = self.mailed_notice(user, *message) {
                 if let Some(sent) = item_at(&self.messages, message.0) {
-                    items.push(self.ready_item(&self.waiting[place], sent)?)?;
+                    items.push(self.ready_item(&notice, sent)?)?;
                 }
             }
         }
         Ok(items)
+    }
+
+    /// How many of the user's batch rows nothing bars.
+    fn mailed_count(&self, user: UserId) -> usize
+        ensures { (past : List Stamped) → Holds self.now past → result ≡ length (mailed past user) }
+    {
+        let mut count: usize = 0;
+        for message in self.batches.rows(user) {
+            if self.mailed_notice(user, *message).is_some() {
+                count += 1;
+            }
+        }
+        count
     }
 
     /// Whether the user's switch for mails is on.
@@ -113,7 +143,7 @@ impl Tables {
         ensures { (past : List Stamped) → Holds self.now past → result ≡ length (mail_items past user) }
     {
         if self.is_switch_on(user) {
-            self.batches.rows(user).len()
+            self.mailed_count(user)
         } else {
             0
         }
@@ -126,14 +156,18 @@ impl Tables {
         if self.is_switch_on(user) {
             0
         } else {
-            self.batches.rows(user).len()
+            self.mailed_count(user)
         }
     }
 
-    /// How many of the user's batch rows a mail turn makes no item of: those that it switches off.
+    /// How many of the user's batch rows a mail turn makes no item of: those that are barred, and those that it switches
+    /// off.
     pub fn dropped(&self, user: UserId) -> usize
         ensures { (j : List Stamped) → StandsFor self.now j → result ≡ dropped j user }
     {
-        self.switched_off(user)
+        self.batches
+            .rows(user)
+            .len()
+            .saturating_sub(self.handed_over(user))
     }
 }

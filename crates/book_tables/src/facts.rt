@@ -1,11 +1,12 @@
 //! What is so of a user and a message.
-ghost use Rattle.std.specs.Prelude.{◌≡◌, ◌&&◌, ◌==◌, not, true, List, map, filter, IfOk};
+ghost use Rattle.std.specs.Prelude.{◌≡◌, ◌&&◌, ◌==◌, not, true, List, IfOk};
 ghost use Rattle.chat_model.specs.declared.event.Stamped.{Stamped};
 ghost use Rattle.notice_ledger.specs.declared.destination.Destination.{Destination};
 ghost use Rattle.notice_ledger.specs.Past.Values.{is_one_of, is_to_topic, is_participant};
 ghost use Rattle.notice_ledger.specs.Past.Triggers.{goes_to, is_direct, is_participant_of, policy_for, specific_for};
-ghost use Rattle.book_tables.specs.Gathered.{topic_of, IsGathered};
+ghost use Rattle.book_tables.specs.Gathered.{topic_of, took_part_from, IsGathered};
 
+use crate::receipts::is_marked;
 use crate::tables::{Message, Tables, item_at};
 use crate::topic_key::TopicKey;
 use crate::user_set::UserSet;
@@ -41,20 +42,23 @@ impl Message {
     }
 }
 
-/// The senders of the messages to the topic of the channel.
+/// The senders of the messages to the topic of the channel that aren't deleted.
 fn senders(
     alloc: Global,
     messages: &[Message],
+    deleted: &[bool],
     channel: ChannelId,
     topic: &str,
 ) -> Result<Vec<UserId>, OutOfMemory>
-    ensures { IfOk result (λ users. users.items ≡ map (λ m. m.sender) (filter (λ m. is_to_topic channel topic.now m.to) messages.now)) }
+    ensures { IfOk result (λ users. (u : UserId) → is_one_of users.items u ≡ took_part_from deleted.now u channel topic.now 1 messages.now) }
 {
-    let senders = messages
-        .iter()
-        .filter(|message| message.is_to_topic(channel, topic))
-        .map(|message| message.sender);
-    Ok(senders.collect(alloc)?)
+    let mut senders = Vec::new(alloc);
+    for (i, message) in messages.iter().enumerate() {
+        if !is_marked(deleted, 1 + i as u64) && message.is_to_topic(channel, topic) {
+            senders.push(message.sender)?;
+        }
+    }
+    Ok(senders)
 }
 
 /// These users as a set.
@@ -145,11 +149,11 @@ impl Tables {
         }
     }
 
-    /// Who takes part in the topic: the senders of its messages.
+    /// Who takes part in the topic: the senders of its messages that aren't deleted.
     fn participants(&self, channel: ChannelId, topic: &str) -> Result<UserSet, OutOfMemory>
         ensures { IfOk result (λ set. (past : List Stamped) (u : UserId) → Holds self.now past → is_one_of set.users.items u ≡ is_participant past u channel topic.now) }
     {
-        let users = senders(self.alloc, &self.messages, channel, topic)?;
+        let users = senders(self.alloc, &self.messages, &self.deleted, channel, topic)?;
         Ok(set_of(users))
     }
 

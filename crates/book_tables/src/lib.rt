@@ -8,6 +8,7 @@
 
 mod apply;
 mod audit;
+mod bars;
 mod deals;
 mod entries;
 mod facts;
@@ -18,7 +19,10 @@ mod preferences;
 mod prepared;
 mod pushes;
 mod readiness;
+mod reads;
+mod receipts;
 mod refusal;
+mod removals;
 mod rows;
 mod sets;
 mod tables;

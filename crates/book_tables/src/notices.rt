@@ -15,8 +15,8 @@ use crate::sets::{is_in_one, is_in_set, size_of_set};
 use crate::tables::{Message, Tables, Waiting, item_at};
 use crate::user_set::UserSet;
 use chat_model::{
-    ChannelId, DealNo, Facts, GroupId, List as UserList, Mentions, MessageId, OutOfMemory, Stage,
-    Text, Trigger, UserId, Way,
+    ChannelId, DealNo, Facts, GroupId, Mentions, MessageId, OutOfMemory, Stage, Text, Trigger,
+    UserId, Way,
 };
 use mention_scan::{resolve, scan};
 use notice_ledger::Destination;
@@ -52,11 +52,10 @@ fn is_named(mentioned: &Mentions, user: UserId) -> bool
 
 impl Tables {
     ghost use Rattle.notice_ledger.specs.Past.Journal.{occurrence};
-    ghost use Rattle.notice_ledger.specs.Past.Values.{is_bot, is_member, member_count, settings};
+    ghost use Rattle.notice_ledger.specs.Past.Values.{is_bot, is_member, member_count, settings, subscribed};
     ghost use Rattle.notice_ledger.specs.Past.Triggers.{goes_to, is_mentioned, smaller, smallest_named, came_by};
     ghost use Rattle.notice_ledger.specs.Past.Triggers.{trigger as trigger_at};
     ghost use Rattle.notice_ledger.specs.Past.Owed.{notice_of, owed_by};
-    ghost use Rattle.notice_ledger.specs.declared.destination.Destination.TheVariants.{Channel, Direct};
     ghost use Rattle.book_tables.specs.Tables.{Holds, in_flight, send_of, sent_after, owed_user};
     ghost use Rattle.book_tables.specs.Gathered.{IsGathered, owed_there};
 
@@ -178,6 +177,7 @@ impl Tables {
                     deal: DealNo(self.messages.len() as u64),
                     online: pushes_online(facts, way),
                     stage: Stage::Flight,
+                    barred: None,
                 })?;
                 Ok(())
             }
@@ -239,55 +239,41 @@ impl Tables {
         Ok(owed)
     }
 
-    /// The notices that the next message owes the subscribers of its channel.
-    fn owed_in_channel(
-        &self,
-        message: &Message,
-        gathered: &Gathered,
-        channel: ChannelId,
-    ) -> Result<Vec<Waiting>, OutOfMemory>
-        ensures { IfOk result (λ owed. (past : List Stamped) (at : ℕ) (topic : List ℕ) → Holds self.now past → IsGathered past message.now gathered.now → message.now.to ≡ Channel channel topic
-            → owed.items ≡ map in_flight (owed_by (occurrence past (send_of at message.now)))) }
+    /// The subscribers of a channel, nobody where there is no such channel.
+    fn subscribers_of(&self, channel: ChannelId) -> Result<UserSet, OutOfMemory>
+        ensures { IfOk result (λ set. (past : List Stamped) (u : UserId) → Holds self.now past → is_one_of set.users.items u ≡ subscribed past u channel) }
     {
         match item_at(&self.subscribers, channel.0) {
-            Some(subscribers) => {
-                let owed = self.owed_to(message, gathered, subscribers)?;
-                Ok(owed)
-            }
-            None => Ok(Vec::new(self.alloc)),
+            Some(subscribers) => subscribers.copy(),
+            None => Ok(UserSet::new(self.alloc)),
         }
     }
 
-    /// The notices that the next message, which is direct, owes the users whom it names.
-    fn owed_directly(
+    /// To whom a message goes now: the subscribers of its channel, or the users whom a direct one names.
+    pub(crate) fn addressees(&self, to: &Destination) -> Result<UserSet, OutOfMemory>
+        ensures { IfOk result (λ set. (past : List Stamped) (u : UserId) → Holds self.now past → is_one_of set.users.items u ≡ goes_to past to.now u) }
+    {
+        match to {
+            Destination::Channel { channel, .. } => self.subscribers_of(*channel),
+            Destination::Direct { to } => {
+                let users = to.copy()?;
+                Ok(set_of(users.into_vec()))
+            }
+        }
+    }
+
+    /// The notices that the next message owes those to whom it goes. Only they are looked at.
+    pub(crate) fn owed(
         &self,
         message: &Message,
-        gathered: &Gathered,
-        to: &UserList<UserId>,
+        addressees: &UserSet,
     ) -> Result<Vec<Waiting>, OutOfMemory>
-        ensures { IfOk result (λ owed. (past : List Stamped) (at : ℕ) → Holds self.now past → IsGathered past message.now gathered.now → message.now.to ≡ Direct to.now
+        ensures { IfOk result (λ owed. (past : List Stamped) (at : ℕ) → Holds self.now past
+            → ((u : UserId) → is_one_of addressees.now.users.items u ≡ goes_to past message.now.to u)
             → owed.items ≡ map in_flight (owed_by (occurrence past (send_of at message.now)))) }
     {
-        let users = to.copy()?;
-        let named = set_of(users.into_vec());
-        let owed = self.owed_to(message, gathered, &named)?;
-        Ok(owed)
-    }
-
-    /// The notices that the next message owes. Only those to whom it goes are looked at.
-    pub(crate) fn owed(&self, message: &Message) -> Result<Vec<Waiting>, OutOfMemory>
-        ensures { IfOk result (λ owed. (past : List Stamped) (at : ℕ) → Holds self.now past → owed.items ≡ map in_flight (owed_by (occurrence past (send_of at message.now)))) }
-    {
         let gathered = self.gather(message)?;
-        match &message.to {
-            Destination::Channel { channel, .. } => {
-                let owed = self.owed_in_channel(message, &gathered, *channel)?;
-                Ok(owed)
-            }
-            Destination::Direct { to } => {
-                let named = self.owed_directly(message, &gathered, to)?;
-                Ok(named)
-            }
-        }
+        let owed = self.owed_to(message, &gathered, addressees)?;
+        Ok(owed)
     }
 }

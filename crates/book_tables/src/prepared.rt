@@ -1,5 +1,5 @@
 //! What an event will change, made ready before it is committed.
-ghost use Rattle.std.specs.Prelude.{◌≡◌, ◌+◌, ◌^◌, ◌<◌, ◌++◌, ◌∷◌, [], true, List as Items, map, filter, length, option_map, option_to_list, IfOk, OnOk};
+ghost use Rattle.std.specs.Prelude.{◌≡◌, ◌+◌, ◌^◌, ◌<◌, ◌++◌, ◌∷◌, [], true, List as Items, map, filter, length, option_map, option_to_list, not, IfOk, OnOk};
 ghost use Rattle.chat_model.specs.declared.event.Stamped.{Stamped};
 ghost use Rattle.chat_model.specs.declared.row.Row.TheVariants.{User};
 ghost use Rattle.chat_model.specs.declared.row.RowChange.TheVariants.{Put, Remove};
@@ -10,8 +10,9 @@ ghost use Rattle.notice_ledger.specs.InOrder.{is_ascending, is_in_order};
 ghost use Rattle.notice_ledger.specs.Lawful.{lawful, is_lawful_after};
 ghost use Rattle.notice_ledger.specs.Rows.{rows};
 ghost use Rattle.notice_ledger.specs.Past.Rows.{outbox_rows_from};
+ghost use Rattle.book_tables.specs.Pushes.{push_of};
 ghost use Rattle.book_tables.specs.UserSets.{users_in};
-ghost use Rattle.book_tables.specs.Notices.{IsInOrder, is_undecided, is_undecided_at, is_undecided_of, readied, dealt_to, named_by};
+ghost use Rattle.book_tables.specs.Notices.{IsInOrder, is_barred, is_undecided, is_undecided_at, is_undecided_of, readied, dealt_to, named_by};
 ghost use Rattle.chat_model.specs.Outcomes.{is_idle, is_live};
 ghost use Rattle.book_tables.specs.Prepared.{notice_row, key_of_notice, active_row, turn_rows, puts_where, removes_where, removed_mail, changes_of};
 
@@ -22,8 +23,8 @@ use crate::tables::{Message, Tables, Waiting};
 use crate::user_set::UserSet;
 use crate::waiting::{find_deal, find_undecided};
 use chat_model::{
-    ChannelId, Deal, DealNo, Entry, EntryNo, Event, GroupId, GroupName, List, MessageId, Moment,
-    OutOfMemory, Outcome, Policy, PushItem, QueueId, Request, Row, RowChange, RowKey,
+    Cause, ChannelId, Deal, DealNo, Entry, EntryNo, Event, GroupId, GroupName, List, MessageId,
+    Moment, OutOfMemory, Outcome, Policy, PushItem, QueueId, Request, Row, RowChange, RowKey,
     SettingChange, Settings, Stamped, Text, UserId, UserName, UserVerdict, Verdict, Way,
 };
 use notice_ledger::Destination;
@@ -71,6 +72,7 @@ pub enum Effect {
     },
     Message {
         message: Message,
+        addressees: UserSet,
         waiting: Vec<Waiting>,
         deal: Deal,
     },
@@ -101,11 +103,30 @@ pub enum Effect {
         off: u64,
     },
     /// The push item that waited longest had its turn: the entry of a push that was handed over, and none of one that
-    /// was switched off.
+    /// was dropped.
     Pushed {
         user: UserId,
         message: MessageId,
         entry: Option<Entry>,
+        /// How many notices were switched off.
+        off: u64,
+    },
+    /// A read or a deletion bars the notices of these pairs for this cause.
+    Barred {
+        cause: Cause,
+        /// The message that it deletes.
+        deleted: Option<MessageId>,
+        pairs: Vec<PushKey>,
+        /// How many notices it cancels.
+        cancelled: u64,
+        /// The items of the pushes that it revokes.
+        removals: Vec<PushItem>,
+    },
+    /// The removal that waited longest had its turn.
+    Removed {
+        user: UserId,
+        messages: List<MessageId>,
+        entry: Entry,
     },
 }
 
@@ -133,21 +154,23 @@ fn row_of(notice: &Waiting) -> Row
 }
 
 /// The key of a notice's row.
-fn key_of(notice: &Waiting) -> RowKey
+pub(crate) fn key_of(notice: &Waiting) -> RowKey
     ensures { result ≡ key_of_notice notice.now }
 {
     RowKey::Pending(notice.user, notice.message, notice.way)
 }
 
-/// Adds the rows of notices that wait.
+/// Adds the rows of notices that wait: those that are barred have none.
 pub(crate) fn put_notices(
     changes: &mut Vec<RowChange>,
     waiting: &[Waiting],
 ) -> Result<(), OutOfMemory>
-    ensures { OnOk result (changes.new.items ≡ changes.old.items ++ map (λ w. Put (notice_row w)) waiting.now) }
+    ensures { OnOk result (changes.new.items ≡ changes.old.items ++ puts_where (λ w. not (is_barred w)) (λ w. w) waiting.now) }
 {
     for notice in waiting {
-        changes.push(RowChange::Put(row_of(notice)))?;
+        if !notice.is_barred() {
+            changes.push(RowChange::Put(row_of(notice)))?;
+        }
     }
     Ok(())
 }
@@ -306,9 +329,9 @@ pub(crate) fn put_entries(
 /// Adds the rows of active pushes.
 pub(crate) fn put_active(
     changes: &mut Vec<RowChange>,
-    active: &[PushKey],
+    active: &[Waiting],
 ) -> Result<(), OutOfMemory>
-    ensures { OnOk result (changes.new.items ≡ changes.old.items ++ map (λ p. Put (active_row p)) active.now) }
+    ensures { OnOk result (changes.new.items ≡ changes.old.items ++ map (λ w. Put (active_row (push_of w))) active.now) }
 {
     for push in active {
         changes.push(RowChange::Put(Row::Active {
@@ -353,10 +376,10 @@ impl Tables {
     ghost use Rattle.chat_model.specs.declared.deal.Outcome.TheVariants.{Dealt, Cleared, Missed};
     ghost use Rattle.chat_model.specs.declared.request.Request.TheVariants.{AddUser, AddGroup, Set, SetPolicy, Send, Direct};
     ghost use Rattle.book_tables.specs.Tables.{Holds, HoldSome, StandsFor, IsOldest, WaitsLongest, send_of, push_turn};
-    ghost use Rattle.book_tables.specs.Prepared.{Follows, IsPreparedFor, MayFollow};
+    ghost use Rattle.book_tables.specs.Prepared.{FollowsAll, IsPreparedFor, MayFollow};
 
     fn prepare_user(&self, at: Moment, name: &Text, bot: bool) -> Result<Prepared, OutOfMemory>
-        ensures { IfOk result (λ p. (past : Items Stamped) → Holds self.now past → Follows past (record { at = at; event = Asked (AddUser name.now bot) }) p) }
+        ensures { IfOk result (λ p. FollowsAll self.now (record { at = at; event = Asked (AddUser name.now bot) }) p) }
     {
         let id = UserId(self.names.len() as u64 + 1);
         let mut changes = Vec::new(self.alloc);
@@ -384,7 +407,7 @@ impl Tables {
         members: &List<UserId>,
     ) -> Result<Prepared, OutOfMemory>
         requires { is_ascending members.now ≡ true }
-        ensures { IfOk result (λ p. (past : Items Stamped) → Holds self.now past → Follows past (record { at = at; event = Asked (AddGroup name.now members.now) }) p) }
+        ensures { IfOk result (λ p. FollowsAll self.now (record { at = at; event = Asked (AddGroup name.now members.now) }) p) }
     {
         let group = GroupName {
             id: GroupId(self.groups.len() as u64 + 1),
@@ -423,7 +446,7 @@ impl Tables {
         user: UserId,
         change: SettingChange,
     ) -> Result<Prepared, OutOfMemory>
-        ensures { IfOk result (λ p. (past : Items Stamped) → Holds self.now past → Follows past (record { at = at; event = Asked (Set user change) }) p) }
+        ensures { IfOk result (λ p. FollowsAll self.now (record { at = at; event = Asked (Set user change) }) p) }
     {
         let settings = self.settings(user).changed(change);
         let changes = self.user_changes(user, settings)?;
@@ -446,7 +469,7 @@ impl Tables {
         topic: &Text,
         policy: Policy,
     ) -> Result<Prepared, OutOfMemory>
-        ensures { IfOk result (λ p. (past : Items Stamped) → Holds self.now past → Follows past (record { at = at; event = Asked (SetPolicy user channel topic.now policy) }) p) }
+        ensures { IfOk result (λ p. FollowsAll self.now (record { at = at; event = Asked (SetPolicy user channel topic.now policy) }) p) }
     {
         let change = Preference::Policy {
             channel,
@@ -457,9 +480,10 @@ impl Tables {
     }
 
     fn prepare_send(&self, at: Moment, message: Message) -> Result<Prepared, OutOfMemory>
-        ensures { IfOk result (λ p. (past : Items Stamped) → Holds self.now past → Follows past (send_of at message) p) }
+        ensures { IfOk result (λ p. FollowsAll self.now (send_of at message) p) }
     {
-        let waiting = self.owed(&message)?;
+        let addressees = self.addressees(&message.to)?;
+        let waiting = self.owed(&message, &addressees)?;
         let deal = self.deal_of(&waiting)?;
         let mut changes = Vec::new(self.alloc);
         changes.push(RowChange::Put(Row::Message {
@@ -474,6 +498,7 @@ impl Tables {
             changes,
             effect: Effect::Message {
                 message,
+                addressees,
                 waiting,
                 deal,
             },
@@ -488,7 +513,7 @@ impl Tables {
         topic: &Text,
         text: &Text,
     ) -> Result<Prepared, OutOfMemory>
-        ensures { IfOk result (λ p. (past : Items Stamped) → Holds self.now past → Follows past (record { at = at; event = Asked (Send sender channel topic.now text.now) }) p) }
+        ensures { IfOk result (λ p. FollowsAll self.now (record { at = at; event = Asked (Send sender channel topic.now text.now) }) p) }
     {
         let topic = topic.copy()?;
         let text = text.copy()?;
@@ -504,7 +529,7 @@ impl Tables {
         to: &List<UserId>,
         text: &Text,
     ) -> Result<Prepared, OutOfMemory>
-        ensures { IfOk result (λ p. (past : Items Stamped) → Holds self.now past → Follows past (record { at = at; event = Asked (Direct sender to.now text.now) }) p) }
+        ensures { IfOk result (λ p. FollowsAll self.now (record { at = at; event = Asked (Direct sender to.now text.now) }) p) }
     {
         let to = to.copy()?;
         let text = text.copy()?;
@@ -515,7 +540,7 @@ impl Tables {
 
     fn prepare_mails(&self, at: Moment, user: UserId) -> Result<Prepared, OutOfMemory>
         requires { HoldSome self.now }
-        ensures { IfOk result (λ p. (past : Items Stamped) → Holds self.now past → Follows past (record { at = at; event = MailTurn user }) p) }
+        ensures { IfOk result (λ p. FollowsAll self.now (record { at = at; event = MailTurn user }) p) }
     {
         let entries = self.mail_entries(at, user)?;
         let mut changes = Vec::new(self.alloc);
@@ -535,7 +560,7 @@ impl Tables {
 
     /// A start makes every undecided notice ready.
     fn prepare_start(&self, at: Moment) -> Result<Prepared, OutOfMemory>
-        ensures { IfOk result (λ p. (past : Items Stamped) → Holds self.now past → Follows past (record { at = at; event = Restart }) p) }
+        ensures { IfOk result (λ p. FollowsAll self.now (record { at = at; event = Restart }) p) }
     {
         let mut changes = Vec::new(self.alloc);
         put_ready(&mut changes, &self.waiting)?;
@@ -553,7 +578,7 @@ impl Tables {
         deal: DealNo,
         verdicts: &List<UserVerdict>,
     ) -> Result<Prepared, OutOfMemory>
-        ensures { IfOk result (λ p. (past : Items Stamped) → Holds self.now past → Follows past (record { at = at; event = Absorbed (Dealt deal verdicts.now) }) p) }
+        ensures { IfOk result (λ p. FollowsAll self.now (record { at = at; event = Absorbed (Dealt deal verdicts.now) }) p) }
     {
         let idle = set_of(idle_users(self.alloc, verdicts.as_slice())?);
         let live = set_of(live_users(self.alloc, verdicts.as_slice())?);
@@ -580,7 +605,7 @@ impl Tables {
         deals: &List<DealNo>,
         queue: QueueId,
     ) -> Result<Prepared, OutOfMemory>
-        ensures { IfOk result (λ p. (past : Items Stamped) → Holds self.now past → Follows past (record { at = at; event = Absorbed (Cleared user deals.now queue) }) p) }
+        ensures { IfOk result (λ p. FollowsAll self.now (record { at = at; event = Absorbed (Cleared user deals.now queue) }) p) }
     {
         let mut changes = Vec::new(self.alloc);
         remove_all_cleared(&mut changes, &self.waiting, user, deals.as_slice())?;
@@ -598,7 +623,7 @@ impl Tables {
         user: UserId,
         deals: &List<DealNo>,
     ) -> Result<Prepared, OutOfMemory>
-        ensures { IfOk result (λ p. (past : Items Stamped) → Holds self.now past → Follows past (record { at = at; event = Absorbed (Missed user deals.now) }) p) }
+        ensures { IfOk result (λ p. FollowsAll self.now (record { at = at; event = Absorbed (Missed user deals.now) }) p) }
     {
         let mut changes = Vec::new(self.alloc);
         put_all_missed(&mut changes, &self.waiting, user, deals.as_slice())?;
@@ -624,9 +649,10 @@ impl Tables {
         message: MessageId,
     ) -> Result<Prepared, OutOfMemory>
         requires { WaitsLongest self.now user message }
-        ensures { IfOk result (λ p. (j : Items Stamped) → StandsFor self.now j → Follows (lawful j) (push_turn at user message) p) }
+        ensures { IfOk result (λ p. FollowsAll self.now (push_turn at user message) p) }
     {
         let entry = self.pushed_entry(at, user, message)?;
+        let off = self.push_off(user, message);
         let mut changes = Vec::new(self.alloc);
         changes.push(RowChange::Remove(RowKey::Pending(user, message, Way::Push)))?;
         let push = PushKey { user, message };
@@ -638,24 +664,25 @@ impl Tables {
                 user,
                 message,
                 entry,
+                off,
             },
         })
     }
 
-    /// The turn of a push item, which waits longest. No item that removes pushes waits yet.
+    /// The turn of a push item, which waits longest.
     fn prepare_turn(&self, at: Moment, item: &PushItem) -> Result<Prepared, OutOfMemory>
         requires { IsOldest self.now item.now }
-        ensures { IfOk result (λ p. (j : Items Stamped) → StandsFor self.now j → Follows (lawful j) (record { at = at; event = PushTurn item.now }) p) }
+        ensures { IfOk result (λ p. FollowsAll self.now (record { at = at; event = PushTurn item.now }) p) }
     {
         match item {
             PushItem::Notify { user, message } => self.prepare_push(at, *user, *message),
-            PushItem::Remove { .. } => unreachable!(),
+            PushItem::Remove { user, messages } => self.prepare_removal(at, *user, messages),
         }
     }
 
     /// What an absorbed outcome changes: the notices that it names alone.
     fn prepare_absorbed(&self, at: Moment, outcome: &Outcome) -> Result<Prepared, OutOfMemory>
-        ensures { IfOk result (λ p. (past : Items Stamped) → Holds self.now past → Follows past (record { at = at; event = Absorbed outcome.now }) p) }
+        ensures { IfOk result (λ p. FollowsAll self.now (record { at = at; event = Absorbed outcome.now }) p) }
     {
         match outcome {
             Outcome::Dealt { deal, verdicts } => self.prepare_dealt(at, *deal, verdicts),
@@ -679,7 +706,7 @@ impl Tables {
 
     fn prepare_asked(&self, at: Moment, request: &Request) -> Result<Prepared, OutOfMemory>
         requires { is_in_order request.now ≡ true }
-        ensures { IfOk result (λ p. (past : Items Stamped) → Holds self.now past → Follows past (record { at = at; event = Asked request.now }) p) }
+        ensures { IfOk result (λ p. FollowsAll self.now (record { at = at; event = Asked request.now }) p) }
     {
         match request {
             Request::AddUser { name, bot } => self.prepare_user(at, name, *bot),
@@ -745,6 +772,10 @@ impl Tables {
             } => self.prepare_channel_message(at, *sender, *channel, topic, text),
             Request::Direct { sender, to, text } => {
                 self.prepare_direct_message(at, *sender, to, text)
+            }
+            Request::Delete { user, message } => self.prepare_delete(at, *user, *message),
+            Request::Read { user, messages } => {
+                self.prepare_read(at, *user, messages.as_slice())
             }
         }
     }

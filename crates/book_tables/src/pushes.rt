@@ -1,12 +1,15 @@
 //! The pushes: the items that an event makes of them, and what the turn of one does.
-ghost use Rattle.std.specs.Prelude.{◌≡◌, ◌&&◌, ◌++◌, ◌∷◌, [], ℕ, List as Items, map, filter, option_to_list, true, IfOk, OnOk};
+ghost use Rattle.std.specs.Prelude.{◌≡◌, ◌&&◌, ◌++◌, ◌∷◌, [], ℕ, List as Items, map, filter, option_to_list, true, if◌then◌else◌, IfOk, OnOk};
+ghost use Rattle.notice_ledger.specs.Past.Audit.{same_cause};
 ghost use Rattle.std.specs.List.{flat_map};
 ghost use Rattle.std.specs.Option.{option_copied};
 ghost use Rattle.chat_model.specs.declared.event.Stamped.{Stamped};
 ghost use Rattle.notice_ledger.specs.Lawful.{lawful, is_lawful_after};
 ghost use Rattle.notice_ledger.specs.Past.Owed.{Notice};
 ghost use Rattle.notice_ledger.specs.Past.Outbox.{push_entry, push_entries};
+ghost use Rattle.notice_ledger.specs.Past.Values.{settings};
 ghost use Rattle.notice_ledger.specs.Pushes.{oldest_item};
+ghost use Rattle.push_state.specs.Judged.{judged};
 ghost use Rattle.book_tables.specs.UserSets.{users_in};
 ghost use Rattle.book_tables.specs.Notices.{is_undecided_push, is_undecided_at, of_deal, IsInOrder};
 ghost use Rattle.book_tables.specs.Pushes.{push_of, item_of, is_readied_push, IsOnceEach};
@@ -24,7 +27,7 @@ use std::alloc::Global;
 /// How many characters of a message's text a push shows.
 const SHOWN: usize = 200;
 
-/// A push, by its user, then its message.
+/// A user and a message: by them a push, and a pair of notices. They stand by user, then message.
 #[derive(Clone, Copy, Debug, PartialEq, Eq, PartialOrd, Ord)]
 pub struct PushKey {
     pub user: UserId,
@@ -138,8 +141,19 @@ pub fn missed_pushes(
     Ok(pushes)
 }
 
+/// One where the cause is the switch.
+fn off_for(cause: Cause) -> u64
+    ensures { result ≡ if same_cause cause Cause.SwitchedOff then 1 else 0 }
+{
+    match cause {
+        Cause::SwitchedOff => 1,
+        Cause::Read => 0,
+        Cause::Deleted => 0,
+    }
+}
+
 impl Tables {
-    ghost use Rattle.book_tables.specs.Tables.{Holds, StandsFor, WaitsLongest, message_kept, notice_kept, push_turn, IsVerdict, IsReadyPush};
+    ghost use Rattle.book_tables.specs.Tables.{Holds, StandsFor, WaitsLongest, message_kept, notice_kept, push_turn, switched_at_push, IsVerdict, IsReadyPush};
     ghost use Rattle.chat_model.specs.declared.push_item.PushItem.TheVariants.{Notify};
 
     /// The push item that waits longest, `None` exactly where none waits. It takes no memory.
@@ -160,14 +174,33 @@ impl Tables {
         }
     }
 
+    /// What the turn of a push, which is ready, does of it: what bars it counts before the switch.
+    fn judge_push(&self, notice: &Waiting) -> Judged
+        ensures { (past : Items Stamped) → Holds self.now past → result ≡ judged notice.now.barred (settings past notice.now.user) }
+    {
+        judge(notice.barred, &self.settings(notice.user))
+    }
+
+    /// How many notices the turn of the item that waits longest switches off.
+    pub(crate) fn push_off(&self, user: UserId, message: MessageId) -> u64
+        requires { WaitsLongest self.now user message }
+        ensures { (j : Items Stamped) → StandsFor self.now j → result ≡ switched_at_push (lawful j) user message }
+    {
+        match self.judge_push(&self.next_push(user, message)) {
+            Judged::Hand => 0,
+            Judged::Drop(cause) => off_for(cause),
+        }
+    }
+
     /// What the turn of the item that waits longest does of its push. It takes no memory.
     pub fn push_verdict(&self, user: UserId, message: MessageId) -> PushVerdict
         requires { WaitsLongest self.now user message }
         ensures { (j : Items Stamped) (at : ℕ) → StandsFor self.now j → is_lawful_after j (push_turn at user message) ≡ true
             → IsVerdict (j ++ push_turn at user message ∷ []) user message result }
     {
-        match judge(None, &self.settings(user)) {
-            Judged::Hand => PushVerdict::Hand(self.next_push(user, message).trigger),
+        let notice = self.next_push(user, message);
+        match self.judge_push(&notice) {
+            Judged::Hand => PushVerdict::Hand(notice.trigger),
             Judged::Drop(cause) => PushVerdict::Drop(cause),
         }
     }
@@ -205,14 +238,12 @@ impl Tables {
         requires { WaitsLongest self.now user message }
         ensures { IfOk result (λ entry. (j : Items Stamped) → StandsFor self.now j → option_to_list entry ≡ push_entries (lawful j) at (Notify user message)) }
     {
-        match judge(None, &self.settings(user)) {
-            Judged::Hand => {
-                let notice = self.next_push(user, message);
-                match item_at(&self.messages, message.0) {
-                    Some(sent) => Ok(Some(self.push_entry(at, &notice, sent)?)),
-                    None => unreachable!(),
-                }
-            }
+        let notice = self.next_push(user, message);
+        match self.judge_push(&notice) {
+            Judged::Hand => match item_at(&self.messages, message.0) {
+                Some(sent) => Ok(Some(self.push_entry(at, &notice, sent)?)),
+                None => unreachable!(),
+            },
             Judged::Drop(_) => Ok(None),
         }
     }

@@ -6,14 +6,15 @@ ghost use Rattle.std.specs.List.{list_all, list_any};
 ghost use Rattle.chat_model.specs.declared.event.Stamped.{Stamped};
 ghost use Rattle.chat_model.specs.declared.policy.Policy.{Policy};
 ghost use Rattle.chat_model.specs.declared.policy.SpecificChange.{SpecificChange};
-ghost use Rattle.notice_ledger.specs.Past.Refusals.{first_broken, is_taken};
+ghost use Rattle.notice_ledger.specs.Past.Refusals.{first_broken, is_taken, may_read};
 ghost use Rattle.notice_ledger.specs.Limits.{longest_text, longest_topic, longest_name, most_items};
 ghost use Rattle.book_tables.specs.Rules.{tested_rule};
 
 use crate::sets::{is_in_set, size_of_set};
 use crate::tables::{Tables, is_there};
 use chat_model::{
-    ChannelId, GroupId, GroupName, Refusal, Request, SettingChange, Text, UserId, UserName,
+    ChannelId, GroupId, GroupName, MessageId, Refusal, Request, SettingChange, Text, UserId,
+    UserName,
 };
 use notice_ledger::{is_bad_name, is_bad_period, is_blank, is_longer_than};
 
@@ -232,6 +233,38 @@ impl Tables {
         ])
     }
 
+    fn delete_refusal(&self, user: UserId, message: MessageId) -> Option<Refusal>
+        ensures { (past : List Stamped) → Holds self.now past → result ≡ behind.refusal past (Request.Delete user message) }
+    {
+        first_broken(&[
+            (!self.is_user(user), Refusal::NoUser),
+            (!self.is_message(message), Refusal::NoMessage),
+            (!self.is_sender(user, message), Refusal::NotSender),
+        ])
+    }
+
+    /// Whether the user may read all of these messages.
+    fn may_read_all(&self, user: UserId, messages: &[MessageId]) -> bool
+        ensures { (past : List Stamped) → Holds self.now past → result ≡ list_all (may_read past user) messages.now }
+    {
+        for message in messages {
+            if !self.may_read(user, *message) {
+                return false;
+            }
+        }
+        true
+    }
+
+    fn read_refusal(&self, user: UserId, messages: &[MessageId]) -> Option<Refusal>
+        ensures { (past : List Stamped) → Holds self.now past → result ≡ behind.refusal past (Request.Read user messages.now) }
+    {
+        first_broken(&[
+            (!self.is_user(user), Refusal::NoUser),
+            (!self.may_read_all(user, messages), Refusal::NoMessage),
+            (messages.len() > MOST_ITEMS, TOO_MANY),
+        ])
+    }
+
     /// Why the request is refused: the first refusal, by its number, whose rule is broken. It takes no memory.
     pub fn check(&self, request: &Request) -> Option<Refusal>
         ensures { (j : List Stamped) → StandsFor self.now j → result ≡ refusal j request.now }
@@ -264,6 +297,8 @@ impl Tables {
             Request::Direct { sender, to, text } => {
                 self.direct_refusal(*sender, to.as_slice(), text.as_str())
             }
+            Request::Delete { user, message } => self.delete_refusal(*user, *message),
+            Request::Read { user, messages } => self.read_refusal(*user, messages.as_slice()),
         }
     }
 }

@@ -30,14 +30,14 @@ impl Tables {
 
     /// Adds a row for each message.
     fn put_messages(&self, puts: &mut Vec<RowChange>) -> Result<(), OutOfMemory>
-        ensures { (past : Items Stamped) → Holds self.now past → OnOk result (puts.new.items ≡ puts.old.items ++ map Put (message_rows_from 1 (messages past))) }
+        ensures { (past : Items Stamped) → Holds self.now past → OnOk result (puts.new.items ≡ puts.old.items ++ map Put (message_rows_from past 1 (messages past))) }
     {
         for (i, message) in self.messages.iter().enumerate() {
             puts.push(RowChange::Put(Row::Message {
                 id: MessageId(1 + i as u64),
                 sender: message.sender,
                 text: message.text.copy()?,
-                deleted: false,
+                deleted: self.is_deleted(MessageId(1 + i as u64)),
             }))?;
         }
         Ok(())

@@ -5,10 +5,9 @@ ghost use Rattle.chat_model.specs.declared.event.Stamped.{Stamped};
 ghost use Rattle.notice_ledger.specs.Past.Values.{numbered};
 
 use crate::preferences::Preferences;
-use crate::pushes::PushKey;
 use crate::user_set::UserSet;
 use chat_model::{
-    Answer, ChannelId, Deal, DealNo, Entry, EntryNo, GroupId, GroupName, MessageId, Moment,
+    Answer, Cause, ChannelId, Deal, DealNo, Entry, EntryNo, GroupId, GroupName, MessageId, Moment,
     OutOfMemory, Request, Stage, Text, Trigger, UserId, UserName, Way,
 };
 use mail_batches::Batches;
@@ -24,7 +23,8 @@ pub struct Message {
     pub text: Text,
 }
 
-/// An owed notice that is still to be handed over.
+/// An owed notice of which more may become: one that is to be handed over or to be dropped at its turn, one that a live
+/// queue cleared, or a push that was handed over and may still be shown.
 #[derive(Clone, Copy, Debug)]
 pub struct Waiting {
     pub user: UserId,
@@ -37,6 +37,8 @@ pub struct Waiting {
     /// Whether it is a push to a user who wants pushes while online.
     pub online: bool,
     pub stage: Stage,
+    /// Why its turn will drop it, or, once it was handed over, why it is revoked.
+    pub barred: Option<Cause>,
 }
 
 /// Users, groups, channels and messages by their numbers, the notices that wait, and the outbox.
@@ -54,13 +56,20 @@ pub struct Tables {
     pub(crate) channels: Vec<Text>,
     pub(crate) subscribers: Vec<UserSet>,
     pub(crate) messages: Vec<Message>,
+    /// Of each message to whom it goes, among whom its sender may be.
+    pub(crate) addressees: Vec<UserSet>,
+    /// Of each message whether it is deleted.
+    pub(crate) deleted: Vec<bool>,
+    /// The notices that are to be handed over, and those that are ready and will be dropped at their turns.
     pub(crate) waiting: Vec<Waiting>,
+    /// The notices that a live queue cleared and that nothing bars.
+    pub(crate) cleared: Vec<Waiting>,
     /// The mails among them that are ready, by user, and when they are due.
     pub(crate) batches: Batches,
     /// The push items that wait for their turns.
     pub(crate) pushes: PushQueue,
-    /// The pushes that were handed over, in the order of their turns.
-    pub(crate) active: Vec<PushKey>,
+    /// The pushes that were handed over and whose removal isn't written. One that is barred is revoked.
+    pub(crate) active: Vec<Waiting>,
     /// By their numbers, from 0.
     pub(crate) deals: Vec<Deal>,
     pub(crate) outbox: Vec<Entry>,
@@ -68,8 +77,12 @@ pub struct Tables {
     pub(crate) handed: u64,
     /// How many notices were switched off at their turns, at most 2^64 - 1.
     pub(crate) off: u64,
-    /// How many notices a live queue cleared, at most 2^64 - 1.
-    pub(crate) live: u64,
+    /// How many notices a read cancelled, at most 2^64 - 1.
+    pub(crate) read: u64,
+    /// How many notices a deletion cancelled, at most 2^64 - 1.
+    pub(crate) gone: u64,
+    /// How many revoked pushes have their removal written, at most 2^64 - 1.
+    pub(crate) written: u64,
 }
 
 /// The item of a number, from 1.
@@ -118,7 +131,10 @@ impl Tables {
             channels: Vec::new(alloc),
             subscribers: Vec::new(alloc),
             messages: Vec::new(alloc),
+            addressees: Vec::new(alloc),
+            deleted: Vec::new(alloc),
             waiting: Vec::new(alloc),
+            cleared: Vec::new(alloc),
             batches: Batches::new(alloc),
             pushes: PushQueue::new(alloc),
             active: Vec::new(alloc),
@@ -126,7 +142,9 @@ impl Tables {
             outbox: Vec::new(alloc),
             handed: 0,
             off: 0,
-            live: 0,
+            read: 0,
+            gone: 0,
+            written: 0,
         }
     }
 
@@ -258,6 +276,8 @@ impl Tables {
             Request::Mute { .. } => Answer::Done,
             Request::Send { .. } => self.sent(),
             Request::Direct { .. } => self.sent(),
+            Request::Delete { .. } => Answer::Done,
+            Request::Read { .. } => Answer::Done,
         }
     }
 }

@@ -1,5 +1,5 @@
 //! Users who stand together: the subscribers of a channel, or the members of a group.
-ghost use Rattle.std.specs.Prelude.{◌≡◌, ◌<◌, true, false, [], length, OnOk};
+ghost use Rattle.std.specs.Prelude.{◌≡◌, ◌<◌, true, false, [], length, IfOk, OnOk};
 ghost use Rattle.std.specs.Vec.{vec_len, vec_capacity};
 ghost use Rattle.notice_ledger.specs.InOrder.{is_ascending};
 
@@ -34,6 +34,16 @@ impl UserSet {
         UserSet {
             users: users.into_vec(),
         }
+    }
+
+    /// A second set of the same users.
+    pub fn copy(&self) -> Result<UserSet, OutOfMemory>
+        ensures { IfOk result (λ second. second.users.items ≡ self.now.users.items) }
+    {
+        let alloc = *self.users.allocator();
+        Ok(UserSet {
+            users: Vec::from_slice(alloc, &self.users)?,
+        })
     }
 
     /// Whether the user is in the set.

@@ -12,7 +12,7 @@ use Rattle.chat_model.specs.declared.settings.Settings.{Settings}
 use Rattle.chat_model.specs.declared.mentions.UserName.{UserName}
 use Rattle.chat_model.specs.declared.mentions.GroupName.{GroupName}
 use Rattle.chat_model.specs.declared.request.Request.{Request}
-use Rattle.chat_model.specs.declared.request.Request.TheVariants.{AddUser, AddGroup, Member, AddChannel, Subscribe, Set, SetChannel, SetPolicy, Mute, Send, Direct}
+use Rattle.chat_model.specs.declared.request.Request.TheVariants.{AddUser, AddGroup, Member, AddChannel, Subscribe, Set, SetChannel, SetPolicy, Mute, Send, Direct, Delete, Read}
 use Rattle.chat_model.specs.declared.settings.SettingChange.{SettingChange}
 use Rattle.chat_model.specs.declared.settings.SettingChange.TheVariants.{MailMentions, PushMentions, PushOnline, ChannelMail, ChannelPush, Wildcards, FollowedMail, FollowedPush, FollowedWildcards, Period}
 use Rattle.chat_model.specs.declared.policy.SpecificChange.{SpecificChange}
@@ -169,6 +169,12 @@ specific_change_exact (specific.Push on) (specific.Push on') = (λ h. grind (ari
 specific_change_exact (specific.Wildcards on) (specific.Wildcards on') = (λ h. grind (arith, common_steps), λ h. grind (arith, common_steps))
 specific_change_exact _ _ = (λ h. cc, λ h. cc)
 
+message_id_exact : (a b : MessageId) → Decides ((message_eq.ghosts).eq a b) (a ≡ b)
+message_id_exact a b = (λ h. grind (arith, common_steps), λ h. grind (arith, common_steps))
+
+message_ids_exact : (a b : List MessageId) → Decides (pointwise (message_eq.ghosts).eq a b) (a ≡ b)
+message_ids_exact a b = slice_eq-Decides message_id_exact a b (pointwise (message_eq.ghosts).eq a b) refl
+
 pub request_exact : (a b : Request) → Decides ((request_eq.ghosts).eq a b) (a ≡ b)
 request_exact (AddUser name bot) (AddUser other bot') = (λ h. grind (arith, common_steps, text_exact), λ h. grind (arith, common_steps, text_exact))
 request_exact (AddGroup name members) (AddGroup other members') = (λ h. grind (arith, common_steps, text_exact, users_exact), λ h. grind (arith, common_steps, text_exact, users_exact))
@@ -180,6 +186,8 @@ request_exact (SetChannel user channel change) (SetChannel user' channel' change
 request_exact (SetPolicy user channel topic policy) (SetPolicy user' channel' topic' policy') = (λ h. grind (arith, common_steps, text_exact), λ h. grind (arith, common_steps, text_exact))
 request_exact (Mute user other on) (Mute user' other' on') = (λ h. grind (arith, common_steps), λ h. grind (arith, common_steps))
 request_exact (Direct sender to text) (Direct sender' to' text') = (λ h. grind (arith, common_steps, text_exact, users_exact), λ h. grind (arith, common_steps, text_exact, users_exact))
+request_exact (Delete user message) (Delete user' message') = (λ h. grind (arith, common_steps), λ h. grind (arith, common_steps))
+request_exact (Read user messages) (Read user' messages') = (λ h. grind (arith, common_steps, message_ids_exact), λ h. grind (arith, common_steps, message_ids_exact))
 request_exact (Send sender channel topic text) (Send sender' channel' topic' text') = (λ h. grind (arith, common_steps, text_exact), λ h. grind (arith, common_steps, text_exact))
 request_exact _ _ = (λ h. cc, λ h. cc)
 
@@ -200,12 +208,6 @@ outcome_exact (Dealt k verdicts) (Dealt k' verdicts') = (λ h. grind (arith, com
 outcome_exact (Cleared u deals queue) (Cleared u' deals' queue') = (λ h. grind (arith, common_steps, deals_exact), λ h. grind (arith, common_steps, deals_exact))
 outcome_exact (Missed u deals) (Missed u' deals') = (λ h. grind (arith, common_steps, deals_exact), λ h. grind (arith, common_steps, deals_exact))
 outcome_exact _ _ = (λ h. cc, λ h. cc)
-
-message_id_exact : (a b : MessageId) → Decides ((message_eq.ghosts).eq a b) (a ≡ b)
-message_id_exact a b = (λ h. grind (arith, common_steps), λ h. grind (arith, common_steps))
-
-message_ids_exact : (a b : List MessageId) → Decides (pointwise (message_eq.ghosts).eq a b) (a ≡ b)
-message_ids_exact a b = slice_eq-Decides message_id_exact a b (pointwise (message_eq.ghosts).eq a b) refl
 
 pub push_item_exact : (a b : PushItem) → Decides ((push_item_eq.ghosts).eq a b) (a ≡ b)
 push_item_exact (push.Notify u m) (push.Notify v n) = (λ h. grind (arith, common_steps), λ h. grind (arith, common_steps))
@@ -237,6 +239,7 @@ conversation_exact _ _ = (λ h. cc, λ h. cc)
 pub entry_exact : (a b : Entry) → Decides ((entry_eq.ghosts).eq a b) (a ≡ b)
 entry_exact (entry.Mail u n at c items) (entry.Mail v m at' d items') = (λ h. grind (arith, common_steps, text_exact, conversation_exact, items_exact), λ h. grind (arith, common_steps, text_exact, conversation_exact, items_exact))
 entry_exact (entry.Push u n at c i) (entry.Push v m at' d j) = (λ h. grind (arith, common_steps, text_exact, conversation_exact, item_exact), λ h. grind (arith, common_steps, text_exact, conversation_exact, item_exact))
+entry_exact (entry.Remove u n at ms) (entry.Remove v m at' ms') = (λ h. grind (arith, common_steps, text_exact, message_ids_exact), λ h. grind (arith, common_steps, text_exact, message_ids_exact))
 entry_exact _ _ = (λ h. cc, λ h. cc)
 
 user_row_same : (i j : UserId) (n m : List ℕ) (c d : Bool) (s t : Settings) → ((user_eq.ghosts).eq i j && ((text_eq.ghosts).eq n m && ((bool_eq.ghosts).eq c d && (settings_eq.ghosts).eq s t))) ≡ true → row.User i n c s ≡ row.User j m d t

@@ -2,6 +2,7 @@
 use Rattle.std.proofs.Common.{◌≡◌, ℕ, ◌+◌, ◌<◌, ◌≤◌, Bool, true, false, ◌||◌, ◌==◌, cond, List, [], ◌∷◌, length, refl, sym, ap, ◌∙◌, subst, arith, inl, inr}
 use Rattle.std.specs.Prelude.{nat_lt}
 use Rattle.std.specs.List.{AllByRecursion, dedup, dedup_from, list_all, list_any}
+use Rattle.std.specs.List.Retain.{DiffersFromLast, IsFiltered}
 use Rattle.std.specs.List.Sorted.{IsPermutation, IsSorted, IsStrictlySortedBy}
 use Rattle.std.specs.Ordering.{eq_by_cmp, nat_cmp}
 use Rattle.std.specs.declared.cmp.Ordering.{Ordering}
@@ -9,6 +10,7 @@ use Rattle.std.specs.declared.cmp.Ordering.TheVariants.{Less}
 use Rattle.std.proofs.lemmas.Bool.{and_from, and_parts, or_from, or_left, cases_eq, cases_order, cond_both, eq-eqb, eqb-false, eqb-true, false≢true, lt-ltb, ltb-false, ltb-true, ne_eqb}
 use Rattle.std.proofs.lemmas.Bool.Decides.{nat_tests}
 use Rattle.std.proofs.lemmas.Cmp.{nat_cmp_total, on_total}
+use Rattle.std.proofs.lemmas.List.Filters.{dedup_is}
 use Rattle.std.proofs.lemmas.List.Kept.{IsStrictlySortedBy-dedup}
 use Rattle.std.proofs.lemmas.List.Sorted.{list_any-IsPermutation}
 use Rattle.chat_model.specs.Ascending.{ascending_once_by, is_ascending_by, put_once_by}
@@ -202,3 +204,10 @@ ascending_once-sorted number told xs sorted moved h =
     (ascending_from_sorted number (dedup (same_number number) sorted) (IsStrictlySortedBy-dedup (on_total number nat_cmp_total) (same_number-ties number) sorted h))
     (ascending_once-ascending number xs)
     (λ n. dedup-has number sorted n ∙ (sym (list_any-IsPermutation (λ x. number x == n) xs sorted moved) ∙ sym (ascending_once-has number xs n)))
+
+-- items taken from a list, sorted, and given back without repeats
+pub once_each : {A : Type 0} (number : A → ℕ) → ((x y : A) → number x ≡ number y → x ≡ y) → (items taken sorted kept given : List A) → given ≡ kept → taken ≡ items → IsPermutation taken sorted → IsSorted (λ x y. nat_cmp (number x) (number y)) sorted →
+    IsFiltered (DiffersFromLast (λ x y. number x == number y)) [] sorted kept → given ≡ ascending_once_by number items
+once_each {A} number told items taken sorted kept given same from moved ascending filtered =
+    same ∙ (dedup_is _ sorted kept filtered
+    ∙ ascending_once-sorted number told items sorted (subst (λ (xs : List A). IsPermutation xs sorted) from moved) ascending)

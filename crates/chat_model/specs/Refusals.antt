@@ -1,14 +1,16 @@
 -- The numbers of the refusals.
 use Rattle.std.specs.Prelude.{ℕ}
 use Rattle.chat_model.specs.declared.request.Refusal.{Refusal}
-use Rattle.chat_model.specs.declared.request.Refusal.TheVariants.{NoUser, NoChannel, NoGroup, Exists, NotSubscribed, EmptyText, TextTooLong, TopicTooLong, BadPeriod, BadQueue, BadEventId, TooMany, NameTooLong, BadName}
+use Rattle.chat_model.specs.declared.request.Refusal.TheVariants.{NoUser, NoChannel, NoMessage, NoGroup, Exists, NotSender, NotSubscribed, EmptyText, TextTooLong, TopicTooLong, BadPeriod, BadQueue, BadEventId, TooMany, NameTooLong, BadName}
 
 -- the number of a refusal
 abbrev pub refusal_number : Refusal → ℕ
 refusal_number NoUser = 10
 refusal_number NoChannel = 11
+refusal_number NoMessage = 12
 refusal_number NoGroup = 13
 refusal_number Exists = 14
+refusal_number NotSender = 15
 refusal_number NotSubscribed = 16
 refusal_number EmptyText = 17
 refusal_number TextTooLong = 18

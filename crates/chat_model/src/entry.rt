@@ -113,6 +113,13 @@ pub enum Entry {
         conversation: Conversation,
         item: Item,
     },
+    /// The pushes of these messages go away.
+    Remove {
+        user: UserId,
+        name: Text,
+        at: Moment,
+        messages: List<MessageId>,
+    },
 }
 
 impl Entry {
@@ -149,6 +156,17 @@ impl Entry {
                 at: *at,
                 conversation: conversation.copy(alloc)?,
                 item: item.copy(alloc)?,
+            }),
+            Entry::Remove {
+                user,
+                name,
+                at,
+                messages,
+            } => Ok(Entry::Remove {
+                user: *user,
+                name: name.copy()?,
+                at: *at,
+                messages: messages.copy()?,
             }),
         }
     }

@@ -27,7 +27,7 @@ mod tests;
 mod text;
 mod trigger;
 
-pub use ascending::{ascending_groups, ascending_users};
+pub use ascending::{ascending_groups, ascending_messages, ascending_users};
 pub use counts::Counts;
 pub use deal::{Deal, Outcome, QueueId, UserVerdict, Verdict};
 pub use duplicate::{Duplicate, duplicate_all};

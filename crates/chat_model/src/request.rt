@@ -66,6 +66,15 @@ pub enum Request {
         to: List<UserId>,
         text: Text,
     },
+    Delete {
+        user: UserId,
+        message: MessageId,
+    },
+    /// The messages may stand in any order and repeat; the event keeps them ascending, once each.
+    Read {
+        user: UserId,
+        messages: List<MessageId>,
+    },
 }
 
 impl Request {
@@ -138,6 +147,14 @@ impl Request {
                 to: to.copy()?,
                 text: text.copy()?,
             }),
+            Request::Delete { user, message } => Ok(Request::Delete {
+                user: *user,
+                message: *message,
+            }),
+            Request::Read { user, messages } => Ok(Request::Read {
+                user: *user,
+                messages: messages.copy()?,
+            }),
         }
     }
 }
@@ -165,10 +182,14 @@ pub enum Refusal {
     NoUser,
     /// 11: the channel does not exist.
     NoChannel,
+    /// 12: a named message does not exist or was deleted, or, for a read, its user is neither sender nor recipient.
+    NoMessage,
     /// 13: the group does not exist.
     NoGroup,
     /// 14: a channel is made and a channel has that name, or a group is made and a group has it, without ASCII case.
     Exists,
+    /// 15: a deletion by another than the sender.
+    NotSender,
     /// 16: the sender is not subscribed to the channel.
     NotSubscribed,
     /// 17: the text has only whitespace.
@@ -200,8 +221,10 @@ impl Refusal {
         match self {
             Refusal::NoUser => 10,
             Refusal::NoChannel => 11,
+            Refusal::NoMessage => 12,
             Refusal::NoGroup => 13,
             Refusal::Exists => 14,
+            Refusal::NotSender => 15,
             Refusal::NotSubscribed => 16,
             Refusal::EmptyText => 17,
             Refusal::TextTooLong => 18,

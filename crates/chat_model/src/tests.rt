@@ -392,7 +392,7 @@ fn entries_are_copied_with_their_items(rt: HostRuntime) -> Result<(), Fail> {
             assert_eq!(rt; items[0].message, MessageId(1));
             assert_eq!(rt; items[0].text.as_str(), "hi @**Ben**");
         }
-        Entry::Push { .. } => panic!(rt; "another entry"),
+        Entry::Push { .. } | Entry::Remove { .. } => panic!(rt; "another entry"),
     }
     Ok(())
 }
@@ -410,8 +410,52 @@ fn pushed_entries_are_copied_with_their_item(rt: HostRuntime) -> Result<(), Fail
             assert_eq!(rt; at.seconds(), 100);
             assert_eq!(rt; item.text.as_str(), "hi @**Ben**");
         }
-        Entry::Mail { .. } => panic!(rt; "another entry"),
+        Entry::Mail { .. } | Entry::Remove { .. } => panic!(rt; "another entry"),
     }
+    Ok(())
+}
+
+#[test]
+fn removals_are_copied_with_their_messages(rt: HostRuntime) -> Result<(), Fail> {
+    let alloc = rt.alloc();
+    let Some(at) = Moment::new(150) else {
+        return Err(Fail::from("a moment"));
+    };
+    let entry = Entry::Remove {
+        user: UserId(2),
+        name: Text::from_str(alloc, "Ben")?,
+        at,
+        messages: List::from(vec![in alloc; MessageId(1), MessageId(4)]?),
+    };
+    let second = entry.copy(alloc)?;
+    assert!(rt; entry.is_same(&second));
+    match &second {
+        Entry::Remove { user, messages, .. } => {
+            assert_eq!(rt; *user, UserId(2));
+            assert_eq!(rt;
+                messages.as_slice(),
+                [MessageId(1), MessageId(4)].as_slice()
+            );
+        }
+        _ => panic!(rt; "another entry"),
+    }
+    Ok(())
+}
+
+#[test]
+fn reads_and_deletions_are_copied(rt: HostRuntime) -> Result<(), Fail> {
+    let alloc = rt.alloc();
+    let read = Request::Read {
+        user: UserId(2),
+        messages: List::from(vec![in alloc; MessageId(3), MessageId(1)]?),
+    };
+    assert!(rt; read.is_same(&read.copy(alloc)?));
+    let delete = Request::Delete {
+        user: UserId(1),
+        message: MessageId(3),
+    };
+    assert!(rt; delete.is_same(&delete.copy(alloc)?));
+    assert!(rt; !delete.is_same(&read));
     Ok(())
 }
 

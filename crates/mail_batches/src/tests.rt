@@ -126,7 +126,7 @@ fn entries_stand_by_their_first_message(rt: HostRuntime) -> Result<(), Fail> {
                     assert_eq!(rt; item.message.0, *message);
                 }
             }
-            Entry::Push { .. } => panic!(rt; "another entry"),
+            Entry::Push { .. } | Entry::Remove { .. } => panic!(rt; "another entry"),
         }
     }
     Ok(())

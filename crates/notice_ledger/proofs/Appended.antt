@@ -1,19 +1,21 @@
 -- Each definition at a journal with one more event.
-use Rattle.std.proofs.Common.{◌≡◌, ℕ, ◌+◌, Bool, false, List, [], ◌∷◌, ◌++◌, cond, length, refl, sym, ap, ◌∙◌, zero-add}
-use Rattle.std.specs.Prelude.{Option, Some, None, unwrap_or, option_to_list, count_by, find, fold, nat_lt, ◌&&◌}
-use Rattle.std.specs.List.{filter_map, flat_map, cons_option}
+use Rattle.std.proofs.Common.{◌≡◌, ℕ, zero, suc, ◌+◌, Bool, true, false, List, [], ◌∷◌, ◌++◌, cond, length, refl, sym, ap, ◌∙◌, zero-add, arith}
+use Rattle.std.specs.Prelude.{Option, Some, None, unwrap_or, option_to_list, count_by, find, fold, nat_lt, slice_get, ◌&&◌, ◌||◌, ◌==◌}
+use Rattle.std.specs.List.{filter_map, flat_map, list_any, cons_option}
 use Rattle.std.specs.Option.{option_or}
+use Rattle.std.proofs.lemmas.Bool.Decides.{nat_tests}
 use Rattle.std.proofs.lemmas.List.{append_assoc, append-nil}
 use Rattle.std.proofs.lemmas.List.Sums.{fold-append, sum_by-append}
-use Rattle.std.proofs.lemmas.List.Folds.{find-append}
+use Rattle.std.proofs.lemmas.List.Folds.{find-append, list_any-append}
 use Rattle.std.proofs.lemmas.List.Elements.{filter_map-append}
 use Rattle.std.proofs.lemmas.Grind.{flat_map-append}
 use Rattle.chat_model.specs.declared.event.Stamped.{Stamped}
 use Rattle.chat_model.specs.declared.ids.UserId.{UserId}
 use Rattle.chat_model.specs.declared.ids.ChannelId.{ChannelId}
 use Rattle.chat_model.specs.declared.ids.GroupId.{GroupId}
+use Rattle.chat_model.specs.declared.ids.MessageId.{MessageId}
 use Rattle.notice_ledger.specs.Past.Journal.{Occurrence, occurrence, occurrences, occurrences_after, last_given, last_stamp, first_behind}
-use Rattle.notice_ledger.specs.Past.Values.{person_of, people, channel_of, channels, message_of, messages, makes_deal, deal_count, group_of, groups, membership_change, is_member, subscription_change, subscribed}
+use Rattle.notice_ledger.specs.Past.Values.{person_of, people, channel_of, channels, numbered, message_of, messages, message, deletes, is_deleted, reads, makes_deal, deal_count, group_of, groups, membership_change, is_member, subscription_change, subscribed}
 use Rattle.notice_ledger.specs.Past.Owed.{owed_by, notices}
 use Rattle.notice_ledger.specs.Past.Outbox.{entries_by, outbox}
 
@@ -72,6 +74,10 @@ pub is_member-nil : (g : GroupId) (u : UserId) → is_member [] g u ≡ false
 unfolding is_member occurrences
 is_member-nil g u = refl
 
+pub is_deleted-nil : (m : MessageId) → is_deleted [] m ≡ false
+unfolding is_deleted
+is_deleted-nil m = refl
+
 pub outbox-nil : outbox [] ≡ []
 unfolding outbox occurrences
 outbox-nil = refl
@@ -92,6 +98,54 @@ pub messages-append : (j : List Stamped) (s : Stamped) → messages (j ++ s ∷ 
 unfolding messages
 messages-append j s =
     ap (filter_map message_of) (occurrences-append j s) ∙ (filter_map-append message_of (occurrences j) (occurrence j s ∷ []) ∙ ap (λ ms. filter_map message_of (occurrences j) ++ ms) (single_filter_map message_of (occurrence j s)))
+
+slice_get-append : {A : Type 0} (xs : List A) (o : Option A) (k : ℕ) → slice_get (xs ++ option_to_list o) k ≡ option_or (slice_get xs k) (cond (k == length xs) o None)
+slice_get-append {A} [] None k = by (k == 0)
+  where
+    by : (b : Bool) → ◌≡◌ {A = Option A} None (cond b None None)
+    by true = refl
+    by false = refl
+slice_get-append [] (Some x) zero = refl
+slice_get-append [] (Some x) (suc k) = ap (λ b. cond b (Some x) None) (sym (later k))
+  where
+    later : (k : ℕ) → (suc k == 0) ≡ false
+    later k = grind (arith, nat_tests)
+slice_get-append (y ∷ xs) o zero = refl
+slice_get-append (y ∷ xs) o (suc k) = slice_get-append xs o k ∙ ap (λ b. option_or (slice_get xs k) (cond b o None)) (one_less k (length xs))
+  where
+    one_less : (k n : ℕ) → (k == n) ≡ (suc k == suc n)
+    one_less k n = grind (arith, nat_tests)
+
+-- the one more is numbered behind the others
+pub numbered-append : {A : Type 0} (n : ℕ) (xs : List A) (o : Option A) → numbered n (xs ++ option_to_list o) ≡ option_or (numbered n xs) (cond (n == length xs + 1) o None)
+numbered-append zero xs o = ap (λ b. cond b o None) (sym (not_last (length xs)))
+  where
+    not_last : (n : ℕ) → (0 == n + 1) ≡ false
+    not_last n = grind (arith, nat_tests)
+numbered-append (suc k) xs o = slice_get-append xs o k ∙ ap (λ b. option_or (slice_get xs k) (cond b o None)) (one_less k (length xs))
+  where
+    one_less : (k n : ℕ) → (k == n) ≡ (suc k == n + 1)
+    one_less k n = grind (arith, nat_tests)
+
+-- a message that the event sends has the next number
+pub message-append : (j : List Stamped) (s : Stamped) (m : MessageId) → message (j ++ s ∷ []) m ≡ option_or (message j m) (cond (m.0 == length (messages j) + 1) (message_of (occurrence j s)) None)
+message-append j s m = ap (numbered m.0) (messages-append j s) ∙ numbered-append m.0 (messages j) (message_of (occurrence j s))
+
+or_no_more : (a b : Bool) → (a || (b || false)) ≡ (a || b)
+or_no_more true b = refl
+or_no_more false true = refl
+or_no_more false false = refl
+
+pub is_deleted-append : (j : List Stamped) (s : Stamped) (m : MessageId) → is_deleted (j ++ s ∷ []) m ≡ (is_deleted j m || deletes m s.event)
+unfolding is_deleted
+is_deleted-append j s m = list_any-append (λ t. deletes m t.event) j (s ∷ []) ∙ or_no_more (list_any (λ t. deletes m t.event) j) (deletes m s.event)
+
+-- the user read the message
+abbrev pub was_read : List Stamped → UserId → MessageId → Bool
+was_read j u m = list_any (λ s. reads u m s.event) j
+
+pub was_read-append : (j : List Stamped) (s : Stamped) (u : UserId) (m : MessageId) → was_read (j ++ s ∷ []) u m ≡ (was_read j u m || reads u m s.event)
+was_read-append j s u m = list_any-append (λ t. reads u m t.event) j (s ∷ []) ∙ or_no_more (was_read j u m) (reads u m s.event)
 
 pub deal_count-append : (j : List Stamped) (s : Stamped) → deal_count (j ++ s ∷ []) ≡ deal_count j + cond (makes_deal s.event) 1 0
 unfolding deal_count

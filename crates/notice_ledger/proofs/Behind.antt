@@ -1,13 +1,14 @@
 -- The first event behind a place that passes a test, at a journal with one more event.
-use Rattle.std.proofs.Common.{◌≡◌, ℕ, ◌+◌, ◌<◌, ◌≤◌, Bool, true, false, ◌&&◌, ◌||◌, cond, List, [], ◌∷◌, ◌++◌, length, refl, sym, ap, ◌∙◌, subst, arith}
+use Rattle.std.proofs.Common.{◌≡◌, ℕ, ◌+◌, ◌<◌, ◌≤◌, Bool, true, false, ◌&&◌, ◌||◌, cond, List, [], ◌∷◌, ◌++◌, length, take, refl, sym, ap, ◌∙◌, subst, arith}
 use Rattle.std.specs.Prelude.{Option, Some, None, is_some, find, nat_lt}
 use Rattle.std.specs.List.{AllByRecursion}
 use Rattle.std.specs.Option.{option_or}
-use Rattle.std.proofs.lemmas.List.{length_push}
+use Rattle.std.proofs.lemmas.List.{append-nil, append_assoc, length_push, take-append-le}
+use Rattle.std.proofs.Math.Seq.{take-append_seam}
+use Rattle.std.proofs.lemmas.List.Folds.{find-append}
 use Rattle.std.proofs.lemmas.Bool.{le-ltb, lt-ltb}
-use Rattle.std.proofs.Math.Bool.{and-false}
 use Rattle.chat_model.specs.declared.event.Stamped.{Stamped}
-use Rattle.notice_ledger.specs.Past.Journal.{Occurrence, occurrence, occurrences, first_behind, some_behind}
+use Rattle.notice_ledger.specs.Past.Journal.{Occurrence, occurrence, occurrences, occurrences_after, first_behind, some_behind}
 use Rattle.notice_ledger.proofs.Lists.{AllByRecursion-append, AllByRecursion-weaker, by_appending}
 use Rattle.notice_ledger.proofs.Appended.{occurrences-append, first_behind-nil, first_behind-append}
 
@@ -19,6 +20,15 @@ find_all {X} P p (y ∷ xs) x all e = by (p y) e (λ h. find_all P p xs x all.1 
     by : (b : Bool) → cond b (Some y) (find p xs) ≡ Some x → (find p xs ≡ Some x → P x) → P x
     by true h later = let same : y ≡ x = cc in subst P same all.0
     by false h later = later h
+
+-- what is found passes
+pub find-passes : {X : Type 0} (p : X → Bool) (xs : List X) (x : X) → find p xs ≡ Some x → p x ≡ true
+find-passes p [] x e = absurd (cc)
+find-passes {X} p (y ∷ ys) x e = by (p y) refl e (find-passes p ys x)
+  where
+    by : (b : Bool) → p y ≡ b → cond b (Some y) (find p ys) ≡ Some x → (find p ys ≡ Some x → p x ≡ true) → p x ≡ true
+    by true h found later = let same : y ≡ x = cc in ap p (sym same) ∙ h
+    by false h found later = later found
 
 -- each event stands in the journal
 pub occurrences-placed : (j : List Stamped) → AllByRecursion (λ o. o.place < length j) (occurrences j)
@@ -55,10 +65,37 @@ first_behind-past place test = by_appending (λ j. length j ≤ place + 1 → fi
     ∙ (ap (λ x. option_or x (cond (nat_lt place (length j) && test (occurrence j s)) (Some (occurrence j s)) None)) (h (omega (arith, length_push j s)))
     ∙ ap (λ b. cond (b && test (occurrence j s)) (Some (occurrence j s)) None) (le-ltb place (length j) (omega (arith, length_push j s)))))
 
--- none passes a test that no event passes
-pub first_behind-never : (place : ℕ) (test : Occurrence → Bool) → ((o : Occurrence) → test o ≡ false) → (j : List Stamped) → first_behind place test j ≡ None
-first_behind-never place test never j = none (occurrences j)
-  where
-    none : (os : List Occurrence) → find (λ o. nat_lt place o.place && test o) os ≡ None
-    none [] = refl
-    none (o ∷ os) = ap (λ b. cond b (Some o) (find (λ o. nat_lt place o.place && test o) os)) (ap (λ t. nat_lt place o.place && t) (never o) ∙ and-false (nat_lt place o.place)) ∙ none os
+-- ---- more events behind
+
+occurrences_after-more : (past j k : List Stamped) → occurrences_after past (j ++ k) ≡ occurrences_after past j ++ occurrences_after (past ++ j) k
+occurrences_after-more past [] k = ap (λ p. occurrences_after p k) (sym (append-nil past))
+occurrences_after-more past (s ∷ j) k =
+    ap (λ os. occurrence past s ∷ os) (occurrences_after-more (past ++ s ∷ []) j k ∙ ap (λ p. occurrences_after (past ++ s ∷ []) j ++ occurrences_after p k) (append_assoc past (s ∷ []) j))
+
+found_or : {A : Type 0} (o : Option A) (p : Option A) (a : A) → o ≡ Some a → option_or o p ≡ Some a
+found_or o p a e = ap (λ q. option_or q p) e
+
+-- what is found stays found when more events come
+pub found-longer : (place : ℕ) (test : Occurrence → Bool) (j k : List Stamped) (o : Occurrence) → first_behind place test j ≡ Some o → first_behind place test (j ++ k) ≡ Some o
+unfolding occurrences
+found-longer place test j k o e =
+    ap (find (λ o. nat_lt place o.place && test o)) (occurrences_after-more [] j k)
+    ∙ (find-append (λ o. nat_lt place o.place && test o) (occurrences_after [] j) (occurrences_after j k)
+    ∙ found_or (find (λ o. nat_lt place o.place && test o) (occurrences_after [] j)) (find (λ o. nat_lt place o.place && test o) (occurrences_after j k)) o e)
+
+-- an event has the events before its place
+record HasPast (j : List Stamped) (o : Occurrence) : Type 0 where
+  placed : o.place < length j
+  past : o.past ≡ take o.place j
+
+occurrences-past : (j : List Stamped) → AllByRecursion (HasPast j) (occurrences j)
+unfolding occurrences
+occurrences-past = by_appending (λ j. AllByRecursion (HasPast j) (occurrences j)) tt (λ j s h.
+    subst (AllByRecursion (HasPast (j ++ s ∷ []))) (sym (occurrences-append j s))
+    (AllByRecursion-append (HasPast (j ++ s ∷ [])) (occurrences j) (occurrence j s ∷ [])
+    (AllByRecursion-weaker (HasPast j) (HasPast (j ++ s ∷ [])) (λ o p. record { placed = omega (arith, length_push j s, p.placed); past = p.past ∙ sym (take-append-le o.place j (s ∷ []) (omega (arith, p.placed))) }) (occurrences j) h)
+    (record { placed = omega (arith, length_push j s); past = sym (take-append_seam j (s ∷ [])) }, tt)))
+
+-- the events before the place of one that is found
+pub first_behind-take : (place : ℕ) (test : Occurrence → Bool) (j : List Stamped) (o : Occurrence) → first_behind place test j ≡ Some o → o.past ≡ take o.place j
+first_behind-take place test j o found = (find_all (HasPast j) (λ o. nat_lt place o.place && test o) (occurrences j) o (occurrences-past j) found).past

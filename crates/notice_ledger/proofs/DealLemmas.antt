@@ -52,7 +52,7 @@ one_each {X} {Y} {Z} f h (x ∷ xs) =
       | Some y ↦ ap suc (one_each f h xs)
     ]
 
-deals-messages : (j : List Stamped) → length (deals j) ≡ length (messages j)
+pub deals-messages : (j : List Stamped) → length (deals j) ≡ length (messages j)
 unfolding deals messages
 deals-messages j = one_each deal_of message_of (occurrences j)
 

@@ -1,97 +1,71 @@
 -- A user's batch rows and due moment at a journal with one more event.
 use Rattle.std.proofs.Common.{◌≡◌, ℕ, ◌+◌, ◌-◌, ◌<◌, ◌≤◌, Bool, true, false, ◌&&◌, ◌||◌, ◌==◌, not, cond, List, [], ◌∷◌, ◌++◌, length, refl, sym, ap, ◌∙◌, subst, ◌⊎◌, inl, inr, arith}
-use Rattle.std.specs.Prelude.{Option, Some, None, option_map, is_some, unwrap_or, nat_lt, filter, fold, if◌then◌else◌}
+use Rattle.std.specs.Prelude.{Option, Some, None, option_map, unwrap_or, nat_lt, filter, fold, if◌then◌else◌}
 use Rattle.std.specs.Option.{option_or}
 use Rattle.std.specs.List.{AllByRecursion, filter_map, list_any, cons_option, reduce}
 use Rattle.std.specs.List.Sorted.{IsPermutation}
 use Rattle.std.proofs.Math.Bool.{and-false}
 use Rattle.std.proofs.lemmas.Bool.{and_parts, lt-ltb, le-ltb}
 use Rattle.std.proofs.lemmas.List.{append-nil}
-use Rattle.std.proofs.lemmas.List.Elements.{filter-append}
 use Rattle.std.proofs.lemmas.List.Sorted.{IsPermutation-filter_both, IsPermutation-sym}
 use Rattle.chat_model.specs.declared.event.Stamped.{Stamped}
 use Rattle.chat_model.specs.declared.event.Event.{Event}
 use Rattle.chat_model.specs.declared.event.Event.TheVariants.{MailTurn}
 use Rattle.chat_model.specs.declared.ids.DealNo.{DealNo}
 use Rattle.chat_model.specs.declared.ids.UserId.{UserId}
-use Rattle.chat_model.specs.declared.row.Cause.TheVariants.{SwitchedOff}
 use Rattle.chat_model.specs.declared.trigger.Way.{Way}
 use Rattle.chat_model.specs.declared.trigger.Way.TheVariants.{Mail}
-use Rattle.notice_ledger.specs.declared.accounts.Account.{Account}
-use Rattle.notice_ledger.specs.declared.accounts.Account.TheVariants.{Flight, Held, Ready, Handed, Cancelled}
 use Rattle.notice_ledger.specs.Past.Journal.{Occurrence, occurrence, occurrences, last_stamp, some_behind}
 use Rattle.notice_ledger.specs.Past.Values.{settings}
-use Rattle.notice_ledger.specs.Past.Owed.{Notice, same_way, pushes_online, readies, clears, ready, was_cleared, was_dealt, owed_by, is_mail_turn_of, is_turn_of, turn, switch_on, decided, account_by, account_of, is_pending, waiting}
-use Rattle.notice_ledger.specs.Past.Due.{batch_rows, earlier, due}
-use Rattle.notice_ledger.specs.Past.Audit.{same_account}
-use Rattle.notice_ledger.proofs.Batches.{is_mail_of, is_ready, is_ready_mail_of, filter_same, batch_rows-waiting}
+use Rattle.notice_ledger.specs.Past.Owed.{Notice, notices, same_way, pushes_online, readies, clears, ready, was_cleared, owed_by, is_mail_turn_of, is_turn_of, account_of, is_pending}
+use Rattle.notice_ledger.specs.Past.Due.{is_batch_row, batch_rows, earlier, due}
+use Rattle.notice_ledger.proofs.Batches.{is_mail_of, batch_rows-kept}
 use Rattle.notice_ledger.proofs.Behind.{find_all, first_behind-placed}
-use Rattle.notice_ledger.proofs.Lists.{filter-filter, filter_none, filter_same_where}
+use Rattle.notice_ledger.proofs.Lists.{filter-filter, filter_none, filter_or_none, filter_same, filter_same_where}
 use Rattle.notice_ledger.proofs.Same.{same_user, same_ways}
 use Rattle.notice_ledger.proofs.Stamps.{AreStamped}
-use Rattle.notice_ledger.proofs.Standing.{is_turn, is_readying, is_clearing, is_dealing, moved_by, ready-append, account_of-plain, account_of-append}
-use Rattle.notice_ledger.proofs.Waiting.{IsOwedBy, owed_by-each, account_of-new, stays, waiting-append, waiting-pending, waiting-placed}
+use Rattle.notice_ledger.proofs.Standing.{is_turn, is_readying, ready-append}
+use Rattle.notice_ledger.proofs.Queued.{is_queued, kept, IsKept, all_kept, unqueued-unready, queued-ready, is_queued-append, is_queued-new, filter-notices, kept-tested}
+use Rattle.notice_ledger.proofs.Waiting.{IsOwedBy, owed_by-each}
 
 -- ---- batch rows
 
 -- a mail notice of the user that the event makes ready
 abbrev pub is_readied : List Stamped → Stamped → UserId → Notice → Bool
-is_readied j s u n = is_mail_of u n && (not (is_ready j n) && is_readying s n)
+is_readied j s u n = is_mail_of u n && (is_pending (account_of j n) && (not (is_queued j n) && is_readying s n))
 
 -- the mail notices of the user that the event makes ready
 abbrev pub readied : List Stamped → Stamped → UserId → List Notice
-readied j s u = filter (is_readied j s u) (waiting j)
-
--- a notice that waits
-record Waits (j : List Stamped) (n : Notice) : Type 0 where
-  placed : n.owing.place < length j
-  pending : is_pending (account_of j n) ≡ true
-
-all_wait : (j : List Stamped) → AllByRecursion (Waits j) (waiting j)
-all_wait j = both (waiting j) (waiting-placed j) (waiting-pending j)
-  where
-    both : (ns : List Notice) → AllByRecursion (λ n. n.owing.place < length j) ns → AllByRecursion (λ n. is_pending (account_of j n) ≡ true) ns → AllByRecursion (Waits j) ns
-    both [] p q = tt
-    both (n ∷ ns) p q = (record { placed = p.0; pending = q.0 }, both ns p.1 q.1)
-
-not_ready : (b : Bool) → same_account (if b then Handed else Cancelled SwitchedOff) Ready ≡ false
-not_ready true = refl
-not_ready false = refl
-
-row_by : (mail tn rd cl dl : Bool) (decision a : Account) → same_account decision Ready ≡ false → is_pending a ≡ true
-    → (is_pending (moved_by tn rd cl dl decision a) && (mail && same_account (moved_by tn rd cl dl decision a) Ready)) ≡ (((mail && same_account a Ready) && not tn) || (mail && (not (same_account a Ready) && rd)))
-row_by false tn rd cl dl decision a other pending = and-false (is_pending (moved_by tn rd cl dl decision a))
-row_by true true rd cl dl decision Ready other pending = ap (λ b. is_pending decision && b) other ∙ and-false (is_pending decision)
-row_by true false rd cl dl decision Ready other pending = refl
-row_by true tn true cl dl decision Held other pending = refl
-row_by true tn false true dl decision Held other pending = refl
-row_by true tn false false dl decision Held other pending = refl
-row_by true tn true cl dl decision Flight other pending = refl
-row_by true tn false true dl decision Flight other pending = refl
-row_by true tn false false true decision Flight other pending = refl
-row_by true tn false false false decision Flight other pending = refl
-row_by true tn rd cl dl decision a other pending = absurd (cc)
+readied j s u = filter (is_readied j s u) (kept j)
 
 -- the rows are those that had no turn by the event, and those that it makes ready
-pub batch_rows-append : (j : List Stamped) (s : Stamped) (u : UserId) → batch_rows (j ++ s ∷ []) u ≡ filter (λ n. (is_ready_mail_of j u n && not (is_turn s n)) || is_readied j s u n) (waiting j)
+pub batch_rows-append : (j : List Stamped) (s : Stamped) (u : UserId) → batch_rows (j ++ s ∷ []) u ≡ filter (λ n. (is_batch_row j u n && not (is_turn s n)) || is_readied j s u n) (kept j)
 batch_rows-append j s u =
-    let k = j ++ s ∷ [] in
-    let row : Notice → Bool = is_ready_mail_of k u in
+    let row : Notice → Bool = is_batch_row (j ++ s ∷ []) u in
+    let old : Notice → Bool = λ n. is_mail_of u n && (if is_queued j n then not (is_turn s n) else (is_pending (account_of j n) && is_readying s n)) in
     let owed = owed_by (occurrence j s) in
     let new : filter row owed ≡ [] =
-    filter_same_where (IsOwedBy (occurrence j s)) row (λ n. false) (λ n is. ap (λ a. is_mail_of u n && same_account a Ready) (account_of-new j s n is) ∙ and-false (is_mail_of u n)) owed (owed_by-each (occurrence j s))
+    filter_same_where (IsOwedBy (occurrence j s)) row (λ n. false) (λ n is. ap (λ b. is_mail_of u n && b) (is_queued-new j s n is) ∙ and-false (is_mail_of u n)) owed (owed_by-each (occurrence j s))
     ∙ filter_none (λ n. false) (λ n. refl) owed in
-    batch_rows-waiting k u
-    ∙ (ap (filter row) (waiting-append j s)
-    ∙ (filter-append row (filter (stays j s) (waiting j)) owed
-    ∙ (ap (λ ns. filter row (filter (stays j s) (waiting j)) ++ ns) new
-    ∙ (append-nil (filter row (filter (stays j s) (waiting j)))
-    ∙ (filter-filter row (stays j s) (waiting j)
-    ∙ filter_same_where (Waits j) (λ n. stays j s n && row n) (λ n. (is_ready_mail_of j u n && not (is_turn s n)) || is_readied j s u n)
-    (λ n waits.
-    ap (λ a. stays j s n && (is_mail_of u n && same_account a Ready)) (account_of-append j s n waits.placed)
-    ∙ row_by (is_mail_of u n) (is_turn s n) (is_readying s n) (is_clearing s n) (is_dealing s n) (decided n (occurrence j s)) (account_of j n) (not_ready (switch_on j n.user n.way)) waits.pending)
-    (waiting j) (all_wait j))))))
+    filter-notices j s row old (λ n placed. ap (λ b. is_mail_of u n && b) (is_queued-append j s n placed))
+    ∙ (ap (λ ns. filter old (notices j) ++ ns) new
+    ∙ (append-nil (filter old (notices j))
+    ∙ (filter_same old (λ n. (is_batch_row j u n && not (is_turn s n)) || is_readied j s u n) (λ n. parts (is_mail_of u n) (is_queued j n) (is_pending (account_of j n)) (is_turn s n) (is_readying s n)) (notices j)
+    ∙ kept-tested j (λ n. (is_batch_row j u n && not (is_turn s n)) || is_readied j s u n) (λ n. within (is_mail_of u n) (is_queued j n) (is_pending (account_of j n)) (is_turn s n) (is_readying s n)))))
+  where
+    parts : (mail queued pending tn rd : Bool) → (mail && (if queued then not tn else (pending && rd))) ≡ (((mail && queued) && not tn) || (mail && (pending && (not queued && rd))))
+    parts false queued pending tn rd = refl
+    parts true true true true rd = refl
+    parts true true true false rd = refl
+    parts true true false true rd = refl
+    parts true true false false rd = refl
+    parts true false pending tn rd = refl
+
+    within : (mail queued pending tn rd : Bool) → (((mail && queued) && not tn) || (mail && (pending && (not queued && rd)))) ≡ ((pending || queued) && (((mail && queued) && not tn) || (mail && (pending && (not queued && rd)))))
+    within mail queued true tn rd = refl
+    within mail true false tn rd = refl
+    within true false false tn rd = refl
+    within false false false tn rd = refl
 
 -- a mail of the user has its turn by the user's mail turn
 turn_of_mail : (s : Stamped) (u : UserId) (n : Notice) → is_mail_of u n ≡ true → is_turn s n ≡ is_mail_turn_of u s.event
@@ -100,18 +74,18 @@ turn_of_mail s u n mail =
     ap (λ (w : Way). is_turn_of n.user n.number w s.event) (same_ways n.way Mail parts.1) ∙ ap (λ (v : UserId). is_mail_turn_of v s.event) (same_user n.user u parts.0)
 
 -- where the event is no mail turn of the user, all rows stay
-pub batch_rows-no_turn : (j : List Stamped) (s : Stamped) (u : UserId) → is_mail_turn_of u s.event ≡ false → batch_rows (j ++ s ∷ []) u ≡ filter (λ n. is_ready_mail_of j u n || is_readied j s u n) (waiting j)
-batch_rows-no_turn j s u none = batch_rows-append j s u ∙ filter_same (λ n. (is_ready_mail_of j u n && not (is_turn s n)) || is_readied j s u n) (λ n. is_ready_mail_of j u n || is_readied j s u n) (λ n. by n (is_mail_of u n) refl) (waiting j)
+pub batch_rows-no_turn : (j : List Stamped) (s : Stamped) (u : UserId) → is_mail_turn_of u s.event ≡ false → batch_rows (j ++ s ∷ []) u ≡ filter (λ n. is_batch_row j u n || is_readied j s u n) (kept j)
+batch_rows-no_turn j s u none = batch_rows-append j s u ∙ filter_same (λ n. (is_batch_row j u n && not (is_turn s n)) || is_readied j s u n) (λ n. is_batch_row j u n || is_readied j s u n) (λ n. by n (is_mail_of u n) refl) (kept j)
   where
     stays_row : (b : Bool) → ((true && b) && not false) ≡ (true && b)
     stays_row true = refl
     stays_row false = refl
 
-    by : (n : Notice) (mail : Bool) → is_mail_of u n ≡ mail → ((is_ready_mail_of j u n && not (is_turn s n)) || is_readied j s u n) ≡ (is_ready_mail_of j u n || is_readied j s u n)
+    by : (n : Notice) (mail : Bool) → is_mail_of u n ≡ mail → ((is_batch_row j u n && not (is_turn s n)) || is_readied j s u n) ≡ (is_batch_row j u n || is_readied j s u n)
     by n true e =
         ap (λ b. b || is_readied j s u n)
-        ((λ i. (e i && is_ready j n) && not ((turn_of_mail s u n e ∙ none) i)) ∙ (stays_row (is_ready j n) ∙ ap (λ b. b && is_ready j n) (sym e)))
-    by n false e = ap (λ b. ((b && is_ready j n) && not (is_turn s n)) || is_readied j s u n) e ∙ ap (λ b. (b && is_ready j n) || is_readied j s u n) (sym e)
+        ((λ i. (e i && is_queued j n) && not ((turn_of_mail s u n e ∙ none) i)) ∙ (stays_row (is_queued j n) ∙ ap (λ b. b && is_queued j n) (sym e)))
+    by n false e = ap (λ b. ((b && is_queued j n) && not (is_turn s n)) || is_readied j s u n) e ∙ ap (λ b. (b && is_queued j n) || is_readied j s u n) (sym e)
 
 -- a mail turn makes no notice ready
 turn_readies-none : (u v : UserId) (k : DealNo) (online : Bool) (e : Event) → is_mail_turn_of u e ≡ true → readies v k online e ≡ false
@@ -122,48 +96,52 @@ turn_readies-none u v k online e h = absurd (cc)
 pub batch_rows-turn : (j : List Stamped) (s : Stamped) (u : UserId) → is_mail_turn_of u s.event ≡ true → batch_rows (j ++ s ∷ []) u ≡ []
 batch_rows-turn j s u turned =
     batch_rows-append j s u
-    ∙ (filter_same (λ n. (is_ready_mail_of j u n && not (is_turn s n)) || is_readied j s u n) (λ n. false) (λ n. by n (is_mail_of u n) refl) (waiting j)
-    ∙ filter_none (λ n. false) (λ n. refl) (waiting j))
+    ∙ (filter_same (λ n. (is_batch_row j u n && not (is_turn s n)) || is_readied j s u n) (λ n. false) (λ n. by n (is_mail_of u n) refl) (kept j)
+    ∙ filter_none (λ n. false) (λ n. refl) (kept j))
   where
-    none : (b : Bool) → (((true && b) && not true) || (true && (not b && false))) ≡ false
-    none true = refl
-    none false = refl
+    none : (b pending : Bool) → (((true && b) && not true) || (true && (pending && (not b && false)))) ≡ false
+    none true true = refl
+    none true false = refl
+    none false true = refl
+    none false false = refl
 
-    by : (n : Notice) (mail : Bool) → is_mail_of u n ≡ mail → ((is_ready_mail_of j u n && not (is_turn s n)) || is_readied j s u n) ≡ false
+    by : (n : Notice) (mail : Bool) → is_mail_of u n ≡ mail → ((is_batch_row j u n && not (is_turn s n)) || is_readied j s u n) ≡ false
     by n true e =
-        (λ i. ((e i && is_ready j n) && not ((turn_of_mail s u n e ∙ turned) i)) || (e i && (not (is_ready j n) && turn_readies-none u n.user n.deal (pushes_online n) s.event turned i)))
-        ∙ none (is_ready j n)
-    by n false e = ap (λ b. ((b && is_ready j n) && not (is_turn s n)) || (b && (not (is_ready j n) && is_readying s n))) e
+        (λ i. ((e i && is_queued j n) && not ((turn_of_mail s u n e ∙ turned) i)) || (e i && (is_pending (account_of j n) && (not (is_queued j n) && turn_readies-none u n.user n.deal (pushes_online n) s.event turned i))))
+        ∙ none (is_queued j n) (is_pending (account_of j n))
+    by n false e = ap (λ b. ((b && is_queued j n) && not (is_turn s n)) || (b && (is_pending (account_of j n) && (not (is_queued j n) && is_readying s n)))) e
 
 -- what was ready isn't made ready
-apart : (j : List Stamped) (s : Stamped) (u : UserId) (n : Notice) → ((is_ready_mail_of j u n || is_readied j s u n) && not (is_ready_mail_of j u n)) ≡ is_readied j s u n
-apart j s u n = by (is_mail_of u n) (is_ready j n) (is_readying s n)
+apart : (j : List Stamped) (s : Stamped) (u : UserId) (n : Notice) → ((is_batch_row j u n || is_readied j s u n) && not (is_batch_row j u n)) ≡ is_readied j s u n
+apart j s u n = by (is_mail_of u n) (is_queued j n) (is_pending (account_of j n)) (is_readying s n)
   where
-    by : (m r d : Bool) → (((m && r) || (m && (not r && d))) && not (m && r)) ≡ (m && (not r && d))
-    by true true d = refl
-    by true false true = refl
-    by true false false = refl
-    by false r d = refl
+    by : (m r p d : Bool) → (((m && r) || (m && (p && (not r && d)))) && not (m && r)) ≡ (m && (p && (not r && d)))
+    by true true true d = refl
+    by true true false d = refl
+    by true false true true = refl
+    by true false true false = refl
+    by true false false d = refl
+    by false r p d = refl
 
 -- the rows with one more event are the rows before it and those that it makes ready, in another order
 pub batch_rows-grown : (j : List Stamped) (s : Stamped) (u : UserId) → is_mail_turn_of u s.event ≡ false → IsPermutation (batch_rows j u ++ readied j s u) (batch_rows (j ++ s ∷ []) u)
 batch_rows-grown j s u none =
-    let row : Notice → Bool = is_ready_mail_of j u in
-    let all = filter (λ n. row n || is_readied j s u n) (waiting j) in
+    let row : Notice → Bool = is_batch_row j u in
+    let all = filter (λ n. row n || is_readied j s u n) (kept j) in
     let old : filter row all ≡ batch_rows j u =
-    filter-filter row (λ n. row n || is_readied j s u n) (waiting j)
-    ∙ (filter_same (λ n. (row n || is_readied j s u n) && row n) row (λ n. kept (row n) (is_readied j s u n)) (waiting j) ∙ sym (batch_rows-waiting j u)) in
+    filter-filter row (λ n. row n || is_readied j s u n) (kept j)
+    ∙ (filter_same (λ n. (row n || is_readied j s u n) && row n) row (λ n. still (row n) (is_readied j s u n)) (kept j) ∙ sym (batch_rows-kept j u)) in
     let new : filter (λ n. not (row n)) all ≡ readied j s u =
-    filter-filter (λ n. not (row n)) (λ n. row n || is_readied j s u n) (waiting j)
-    ∙ filter_same (λ n. (row n || is_readied j s u n) && not (row n)) (is_readied j s u) (apart j s u) (waiting j) in
+    filter-filter (λ n. not (row n)) (λ n. row n || is_readied j s u n) (kept j)
+    ∙ filter_same (λ n. (row n || is_readied j s u n) && not (row n)) (is_readied j s u) (apart j s u) (kept j) in
     let parted : IsPermutation all (filter row all ++ filter (λ n. not (row n)) all) = IsPermutation-filter_both row (λ n. not (row n)) (λ n. refl) all in
     subst (IsPermutation (batch_rows j u ++ readied j s u)) (sym (batch_rows-no_turn j s u none))
     (IsPermutation-sym all (batch_rows j u ++ readied j s u) (subst (IsPermutation all) (λ i. old i ++ new i) parted))
   where
-    kept : (a b : Bool) → ((a || b) && a) ≡ a
-    kept true b = refl
-    kept false true = refl
-    kept false false = refl
+    still : (a b : Bool) → ((a || b) && a) ≡ a
+    still true b = refl
+    still false true = refl
+    still false false = refl
 
 -- ---- ready events
 
@@ -175,91 +153,80 @@ first_ready j ns = reduce earlier (filter_map (ready j) ns)
 record IsOld (j : List Stamped) (s : Stamped) (u : UserId) (n : Notice) : Type 0 where
   at : Occurrence
   before : at.place < length j
-  row : is_ready_mail_of j u n ≡ true
+  row : is_batch_row j u n ≡ true
   not_new : is_readied j s u n ≡ false
   was : ready j n ≡ Some at
   is : ready (j ++ s ∷ []) n ≡ Some at
 
 -- one that the event makes ready
 record IsNew (j : List Stamped) (s : Stamped) (u : UserId) (n : Notice) : Type 0 where
-  not_row : is_ready_mail_of j u n ≡ false
+  not_row : is_batch_row j u n ≡ false
   new : is_readied j s u n ≡ true
   is : ready (j ++ s ∷ []) n ≡ Some (occurrence j s)
 
 -- neither
 record IsNeither (j : List Stamped) (s : Stamped) (u : UserId) (n : Notice) : Type 0 where
-  not_row : is_ready_mail_of j u n ≡ false
+  not_row : is_batch_row j u n ≡ false
   not_new : is_readied j s u n ≡ false
 
--- a pending notice is ready where it has a ready event, and isn't cleared where it has none
-record IsReadyByEvent (a : Account) (r : Option Occurrence) (cleared : Bool) : Type 0 where
-  ready_there : same_account a Ready ≡ is_some r
-  not_cleared : is_some r ≡ false → cleared ≡ false
-
-by_event : (n : Notice) (t r : Option Occurrence) (c d : Bool) → is_pending (account_by (option_map (decided n) t) None (is_some r) c d) ≡ true → IsReadyByEvent (account_by (option_map (decided n) t) None (is_some r) c d) r c
-by_event n (Some t) r c d pending = absurd (never (switch_on t.past n.user n.way) pending)
+classified : (j : List Stamped) (s : Stamped) (u : UserId) (n : Notice) → IsKept j n → IsOld j s u n ⊎ (IsNew j s u n ⊎ IsNeither j s u n)
+classified j s u n is = by (is_mail_of u n) refl (is_queued j n) refl (is_readying s n) refl
   where
-    never : (b : Bool) → is_pending (if b then Handed else Cancelled SwitchedOff) ≡ true → ⊥
-    never true h = cc
-    never false h = cc
-by_event n None (Some o) c d pending = record { ready_there = refl; not_cleared = λ h. absurd (cc) }
-by_event n None None true d pending = absurd (cc)
-by_event n None None false true pending = record { ready_there = refl; not_cleared = λ h. refl }
-by_event n None None false false pending = record { ready_there = refl; not_cleared = λ h. refl }
-
-classified : (j : List Stamped) (s : Stamped) (u : UserId) (n : Notice) → Waits j n → IsOld j s u n ⊎ (IsNew j s u n ⊎ IsNeither j s u n)
-classified j s u n waits = by (is_mail_of u n) refl (ready j n) refl (is_readying s n) refl
-  where
-    event : IsReadyByEvent (account_of j n) (ready j n) (was_cleared j n)
-    event =
-        subst (λ (a : Account). IsReadyByEvent a (ready j n) (was_cleared j n)) (sym (account_of-plain j n))
-        (by_event n (turn j n) (ready j n) (was_cleared j n) (was_dealt j n) (ap is_pending (sym (account_of-plain j n)) ∙ waits.pending))
-
     later : ready (j ++ s ∷ []) n ≡ option_or (ready j n) (cond (is_readying s n && not (was_cleared j n)) (Some (occurrence j s)) None)
-    later = ready-append j s n waits.placed
+    later = ready-append j s n is.placed
 
-    by : (mail : Bool) → is_mail_of u n ≡ mail → (r : Option Occurrence) → ready j n ≡ r → (rd : Bool) → is_readying s n ≡ rd → IsOld j s u n ⊎ (IsNew j s u n ⊎ IsNeither j s u n)
-    by false m r e rd f =
-        inr (inr (record { not_row = ap (λ b. b && is_ready j n) m; not_new = ap (λ b. b && (not (is_ready j n) && is_readying s n)) m }))
-    by true m (Some o) e rd f =
-        let there : is_ready j n ≡ true = event.ready_there ∙ ap (λ (x : Option Occurrence). is_some x) e in
+    -- what is kept and not queued is pending
+    pending : is_queued j n ≡ false → is_pending (account_of j n) ≡ true
+    pending e = sym (or_none (is_pending (account_of j n))) ∙ (ap (λ b. is_pending (account_of j n) || b) (sym e) ∙ is.kept)
+      where
+        or_none : (b : Bool) → (b || false) ≡ b
+        or_none true = refl
+        or_none false = refl
+
+    nothing : (a b : Bool) → (a && (b && false)) ≡ false
+    nothing true true = refl
+    nothing true false = refl
+    nothing false b = refl
+
+    by : (mail : Bool) → is_mail_of u n ≡ mail → (queued : Bool) → is_queued j n ≡ queued → (rd : Bool) → is_readying s n ≡ rd → IsOld j s u n ⊎ (IsNew j s u n ⊎ IsNeither j s u n)
+    by false m queued e rd f =
+        inr (inr (record { not_row = ap (λ b. b && is_queued j n) m; not_new = ap (λ b. b && (is_pending (account_of j n) && (not (is_queued j n) && is_readying s n))) m }))
+    by true m true e rd f =
+        let found = queued-ready j n e in
         inl (record {
-          at = o;
-          before = first_behind-placed n.owing.place (λ p. readies n.user n.deal (pushes_online n) p.event && not (some_behind n.owing.place (λ q. clears n.user n.deal q.event) p.past)) j o e;
-          row = λ i. m i && there i;
-          not_new = λ i. m i && (not (there i) && is_readying s n);
-          was = e;
-          is = later ∙ ap (λ x. option_or x (cond (is_readying s n && not (was_cleared j n)) (Some (occurrence j s)) None)) e;
+          at = found.0;
+          before = first_behind-placed n.owing.place (λ p. readies n.user n.deal (pushes_online n) p.event && not (some_behind n.owing.place (λ q. clears n.user n.deal q.event) p.past)) j found.0 found.1;
+          row = λ i. m i && e i;
+          not_new = (λ i. m i && (is_pending (account_of j n) && (not (e i) && is_readying s n))) ∙ and-false (is_pending (account_of j n));
+          was = found.1;
+          is = later ∙ ap (λ x. option_or x (cond (is_readying s n && not (was_cleared j n)) (Some (occurrence j s)) None)) found.1;
         })
-    by true m None e true f =
-        let not_there : is_some (ready j n) ≡ false = ap (λ (x : Option Occurrence). is_some x) e in
-        let there : is_ready j n ≡ false = event.ready_there ∙ not_there in
+    by true m false e true f =
+        let unready = unqueued-unready j n (pending e) e in
         inr (inl (record {
-          not_row = λ i. m i && there i;
-          new = λ i. m i && (not (there i) && f i);
-          is = later ∙ (λ i. option_or (e i) (cond (f i && not (event.not_cleared not_there i)) (Some (occurrence j s)) None));
+          not_row = λ i. m i && e i;
+          new = λ i. m i && (pending e i && (not (e i) && f i));
+          is = later ∙ (λ i. option_or (unready.no_event i) (cond (f i && not (unready.not_cleared i)) (Some (occurrence j s)) None));
         }))
-    by true m None e false f =
-        let not_there : is_some (ready j n) ≡ false = ap (λ (x : Option Occurrence). is_some x) e in
-        let there : is_ready j n ≡ false = event.ready_there ∙ not_there in
+    by true m false e false f =
         inr (inr (record {
-          not_row = λ i. m i && there i;
-          not_new = λ i. m i && (not (there i) && f i);
+          not_row = λ i. m i && e i;
+          not_new = (λ i. is_mail_of u n && (is_pending (account_of j n) && (not (e i) && f i))) ∙ nothing (is_mail_of u n) (is_pending (account_of j n));
         }))
 
 module _ (j : List Stamped) (s : Stamped) (u : UserId) where
   is_row : Notice → Bool
-  is_row n = is_ready_mail_of j u n || is_readied j s u n
+  is_row n = is_batch_row j u n || is_readied j s u n
 
   -- the ready events of the rows among these, with the event and before it
   later : List Notice → List Occurrence
   later ns = filter_map (ready (j ++ s ∷ [])) (filter is_row ns)
 
   before : List Notice → List Occurrence
-  before ns = filter_map (ready j) (filter (is_ready_mail_of j u) ns)
+  before ns = filter_map (ready j) (filter (is_batch_row j u) ns)
 
-  abbrev AllWait : List Notice → Type 0
-  AllWait ns = AllByRecursion (Waits j) ns
+  abbrev AllKept : List Notice → Type 0
+  AllKept ns = AllByRecursion (IsKept j) ns
 
   later-old : (n : Notice) (ns : List Notice) (old : IsOld j s u n) → later (n ∷ ns) ≡ old.at ∷ later ns
   unfolding later is_row
@@ -270,8 +237,8 @@ module _ (j : List Stamped) (s : Stamped) (u : UserId) where
   before-old : (n : Notice) (ns : List Notice) (old : IsOld j s u n) → before (n ∷ ns) ≡ old.at ∷ before ns
   unfolding before
   before-old n ns old =
-      ap (λ b. filter_map (ready j) (cond b (n ∷ filter (is_ready_mail_of j u) ns) (filter (is_ready_mail_of j u) ns))) old.row
-      ∙ ap (λ o. cons_option o (filter_map (ready j) (filter (is_ready_mail_of j u) ns))) old.was
+      ap (λ b. filter_map (ready j) (cond b (n ∷ filter (is_batch_row j u) ns) (filter (is_batch_row j u) ns))) old.row
+      ∙ ap (λ o. cons_option o (filter_map (ready j) (filter (is_batch_row j u) ns))) old.was
 
   later-new : (n : Notice) (ns : List Notice) → IsNew j s u n → later (n ∷ ns) ≡ occurrence j s ∷ later ns
   unfolding later is_row
@@ -283,9 +250,9 @@ module _ (j : List Stamped) (s : Stamped) (u : UserId) where
   unfolding later is_row
   later-neither n ns neither = λ i. filter_map (ready (j ++ s ∷ [])) (cond (neither.not_row i || neither.not_new i) (n ∷ filter is_row ns) (filter is_row ns))
 
-  before-other : (n : Notice) (ns : List Notice) → is_ready_mail_of j u n ≡ false → before (n ∷ ns) ≡ before ns
+  before-other : (n : Notice) (ns : List Notice) → is_batch_row j u n ≡ false → before (n ∷ ns) ≡ before ns
   unfolding before
-  before-other n ns not_row = ap (λ b. filter_map (ready j) (cond b (n ∷ filter (is_ready_mail_of j u) ns) (filter (is_ready_mail_of j u) ns))) not_row
+  before-other n ns not_row = ap (λ b. filter_map (ready j) (cond b (n ∷ filter (is_batch_row j u) ns) (filter (is_batch_row j u) ns))) not_row
 
   -- an event of before stands before the last one
   earlier-old : (a : Occurrence) → a.place < length j → earlier a (occurrence j s) ≡ a
@@ -297,7 +264,7 @@ module _ (j : List Stamped) (s : Stamped) (u : UserId) where
   earlier-placed : (a b : Occurrence) → a.place < length j → b.place < length j → (earlier a b).place < length j
   earlier-placed a b h k = elim (nat_lt b.place a.place) as (λ t. (if t then b else a).place < length j) [ true ↦ k | false ↦ h ]
 
-  fold-old : (a : Occurrence) → a.place < length j → (ns : List Notice) → AllWait ns → fold earlier a (later ns) ≡ fold earlier a (before ns)
+  fold-old : (a : Occurrence) → a.place < length j → (ns : List Notice) → AllKept ns → fold earlier a (later ns) ≡ fold earlier a (before ns)
   unfolding later before
   fold-old a lt [] all = refl
   fold-old a lt (n ∷ ns) all = by (classified j s u n all.0) (λ b lt. fold-old b lt ns all.1)
@@ -309,7 +276,7 @@ module _ (j : List Stamped) (s : Stamped) (u : UserId) where
           ∙ (ap (λ b. fold earlier b (later ns)) (earlier-old a lt) ∙ (rest a lt ∙ ap (fold earlier a) (sym (before-other n ns new.not_row))))
       by (inr (inr neither)) rest = ap (fold earlier a) (later-neither n ns neither) ∙ (rest a lt ∙ ap (fold earlier a) (sym (before-other n ns neither.not_row)))
 
-  fold-new : (ns : List Notice) → AllWait ns → fold earlier (occurrence j s) (later ns) ≡ unwrap_or (reduce earlier (before ns)) (occurrence j s)
+  fold-new : (ns : List Notice) → AllKept ns → fold earlier (occurrence j s) (later ns) ≡ unwrap_or (reduce earlier (before ns)) (occurrence j s)
   unfolding later before
   fold-new [] all = refl
   fold-new (n ∷ ns) all = by (classified j s u n all.0) (fold-new ns all.1)
@@ -331,7 +298,7 @@ module _ (j : List Stamped) (s : Stamped) (u : UserId) where
   at_event : Bool → Option Occurrence
   at_event b = cond b (Some (occurrence j s)) None
 
-  reduce-both : (ns : List Notice) → AllWait ns → reduce earlier (later ns) ≡ option_or (reduce earlier (before ns)) (at_event (list_any (is_readied j s u) ns))
+  reduce-both : (ns : List Notice) → AllKept ns → reduce earlier (later ns) ≡ option_or (reduce earlier (before ns)) (at_event (list_any (is_readied j s u) ns))
   unfolding later before at_event
   reduce-both [] all = refl
   reduce-both (n ∷ ns) all = by (classified j s u n all.0) (reduce-both ns all.1)
@@ -357,12 +324,12 @@ module _ (j : List Stamped) (s : Stamped) (u : UserId) where
 
   -- where the event is no mail turn of the user, the first ready event of the rows stays, or is the event where there was
   -- no row and it makes one ready
-  pub first_ready-append : is_mail_turn_of u s.event ≡ false → first_ready (j ++ s ∷ []) (batch_rows (j ++ s ∷ []) u) ≡ option_or (first_ready j (batch_rows j u)) (cond (list_any (is_readied j s u) (waiting j)) (Some (occurrence j s)) None)
+  pub first_ready-append : is_mail_turn_of u s.event ≡ false → first_ready (j ++ s ∷ []) (batch_rows (j ++ s ∷ []) u) ≡ option_or (first_ready j (batch_rows j u)) (cond (list_any (is_readied j s u) (kept j)) (Some (occurrence j s)) None)
   unfolding later before is_row at_event
   first_ready-append none =
       ap (first_ready (j ++ s ∷ [])) (batch_rows-no_turn j s u none)
-      ∙ (reduce-both (waiting j) (all_wait j)
-      ∙ ap (λ ns. option_or (first_ready j ns) (cond (list_any (is_readied j s u) (waiting j)) (Some (occurrence j s)) None)) (sym (batch_rows-waiting j u)))
+      ∙ (reduce-both (kept j) (all_kept j)
+      ∙ ap (λ ns. option_or (first_ready j ns) (cond (list_any (is_readied j s u) (kept j)) (Some (occurrence j s)) None)) (sym (batch_rows-kept j u)))
 
   -- ---- due moments
 
@@ -371,10 +338,10 @@ module _ (j : List Stamped) (s : Stamped) (u : UserId) where
   pub due-append : is_mail_turn_of u s.event ≡ false
       → due (j ++ s ∷ []) u
       ≡ option_or (option_map (λ d. d - (settings j u).period + (settings (j ++ s ∷ []) u).period) (due j u))
-      (cond (list_any (is_readied j s u) (waiting j)) (Some (s.at + (settings (j ++ s ∷ []) u).period)) None)
+      (cond (list_any (is_readied j s u) (kept j)) (Some (s.at + (settings (j ++ s ∷ []) u).period)) None)
   due-append none =
       ap (option_map (λ o. o.at + (settings (j ++ s ∷ []) u).period)) (first_ready-append none)
-      ∙ by (settings j u).period (settings (j ++ s ∷ []) u).period (first_ready j (batch_rows j u)) (list_any (is_readied j s u) (waiting j))
+      ∙ by (settings j u).period (settings (j ++ s ∷ []) u).period (first_ready j (batch_rows j u)) (list_any (is_readied j s u) (kept j))
     where
       moved_on : (at old new : ℕ) → at + new ≡ (at + old) - old + new
       moved_on at old new = omega arith
@@ -386,11 +353,11 @@ module _ (j : List Stamped) (s : Stamped) (u : UserId) where
 
   -- with the period of before
   pub due-readied : is_mail_turn_of u s.event ≡ false → (settings (j ++ s ∷ []) u).period ≡ (settings j u).period
-      → due (j ++ s ∷ []) u ≡ option_or (due j u) (cond (list_any (is_readied j s u) (waiting j)) (Some (s.at + (settings j u).period)) None)
+      → due (j ++ s ∷ []) u ≡ option_or (due j u) (cond (list_any (is_readied j s u) (kept j)) (Some (s.at + (settings j u).period)) None)
   due-readied none same =
       ap (option_map (λ o. o.at + (settings (j ++ s ∷ []) u).period)) (first_ready-append none)
-      ∙ (ap (λ p. option_map (λ (o : Occurrence). o.at + p) (option_or (first_ready j (batch_rows j u)) (cond (list_any (is_readied j s u) (waiting j)) (Some (occurrence j s)) None))) same
-      ∙ by (settings j u).period (first_ready j (batch_rows j u)) (list_any (is_readied j s u) (waiting j)))
+      ∙ (ap (λ p. option_map (λ (o : Occurrence). o.at + p) (option_or (first_ready j (batch_rows j u)) (cond (list_any (is_readied j s u) (kept j)) (Some (occurrence j s)) None))) same
+      ∙ by (settings j u).period (first_ready j (batch_rows j u)) (list_any (is_readied j s u) (kept j)))
     where
       by : (p : ℕ) (o : Option Occurrence) (b : Bool) → option_map (λ (o : Occurrence). o.at + p) (option_or o (cond b (Some (occurrence j s)) None)) ≡ option_or (option_map (λ (o : Occurrence). o.at + p) o) (cond b (Some (s.at + p)) None)
       by p (Some o) b = refl
@@ -402,37 +369,48 @@ module _ (j : List Stamped) (s : Stamped) (u : UserId) where
   or_none (Some x) = refl
 
   -- where the event makes no mail of the user ready
-  pub due-moved : is_mail_turn_of u s.event ≡ false → list_any (is_readied j s u) (waiting j) ≡ false → due (j ++ s ∷ []) u ≡ option_map (λ d. d - (settings j u).period + (settings (j ++ s ∷ []) u).period) (due j u)
+  pub due-moved : is_mail_turn_of u s.event ≡ false → list_any (is_readied j s u) (kept j) ≡ false → due (j ++ s ∷ []) u ≡ option_map (λ d. d - (settings j u).period + (settings (j ++ s ∷ []) u).period) (due j u)
   due-moved none nothing =
       due-append none
       ∙ (ap (λ b. option_or (option_map (λ d. d - (settings j u).period + (settings (j ++ s ∷ []) u).period) (due j u)) (cond b (Some (s.at + (settings (j ++ s ∷ []) u).period)) None)) nothing
       ∙ or_none (option_map (λ d. d - (settings j u).period + (settings (j ++ s ∷ []) u).period) (due j u)))
 
   -- nor changes the period
-  pub due-left : is_mail_turn_of u s.event ≡ false → (settings (j ++ s ∷ []) u).period ≡ (settings j u).period → list_any (is_readied j s u) (waiting j) ≡ false → due (j ++ s ∷ []) u ≡ due j u
+  pub due-left : is_mail_turn_of u s.event ≡ false → (settings (j ++ s ∷ []) u).period ≡ (settings j u).period → list_any (is_readied j s u) (kept j) ≡ false → due (j ++ s ∷ []) u ≡ due j u
   due-left none same nothing =
       due-readied none same
       ∙ (ap (λ b. option_or (due j u) (cond b (Some (s.at + (settings j u).period)) None)) nothing ∙ or_none (due j u))
 
   -- an event that makes nothing of the user ready
-  pub readied-none : ((k : DealNo) (online : Bool) → readies u k online s.event ≡ false) → list_any (is_readied j s u) (waiting j) ≡ false
-  readied-none never = each (waiting j)
+  pub readied-none : ((k : DealNo) (online : Bool) → readies u k online s.event ≡ false) → list_any (is_readied j s u) (kept j) ≡ false
+  readied-none never = each (kept j)
     where
       one : (n : Notice) (mail : Bool) → is_mail_of u n ≡ mail → is_readied j s u n ≡ false
       one n true e =
           let same = same_user n.user u (and_parts (n.user.0 == u.0) (same_way n.way Mail) e).0 in
           let not_readying : is_readying s n ≡ false = ap (λ (v : UserId). readies v n.deal (pushes_online n) s.event) same ∙ never n.deal (pushes_online n) in
-          (λ i. is_mail_of u n && (not (is_ready j n) && not_readying i)) ∙ none (is_mail_of u n) (not (is_ready j n))
+          (λ i. is_mail_of u n && (is_pending (account_of j n) && (not (is_queued j n) && not_readying i))) ∙ none (is_mail_of u n) (is_pending (account_of j n)) (not (is_queued j n))
         where
-          none : (a b : Bool) → (a && (b && false)) ≡ false
-          none true true = refl
-          none true false = refl
-          none false b = refl
-      one n false e = ap (λ b. b && (not (is_ready j n) && is_readying s n)) e
+          none : (a p b : Bool) → (a && (p && (b && false))) ≡ false
+          none true true true = refl
+          none true true false = refl
+          none true false b = refl
+          none false p b = refl
+      one n false e = ap (λ b. b && (is_pending (account_of j n) && (not (is_queued j n) && is_readying s n))) e
 
       each : (ns : List Notice) → list_any (is_readied j s u) ns ≡ false
       each [] = refl
       each (n ∷ ns) = ap (λ b. b || list_any (is_readied j s u) ns) (one n (is_mail_of u n) refl) ∙ each ns
+
+  -- an event that makes nothing ready and is no mail turn, as a read or a deletion, moves no due moment
+  pub due-asked : ((k : DealNo) (online : Bool) → readies u k online s.event ≡ false) → is_mail_turn_of u s.event ≡ false → (settings (j ++ s ∷ []) u).period ≡ (settings j u).period → due (j ++ s ∷ []) u ≡ due j u
+  due-asked never none same = due-left none same (readied-none never)
+
+  -- and changes no batch row
+  pub batch_rows-asked : ((k : DealNo) (online : Bool) → readies u k online s.event ≡ false) → is_mail_turn_of u s.event ≡ false → batch_rows (j ++ s ∷ []) u ≡ batch_rows j u
+  batch_rows-asked never none =
+      batch_rows-no_turn j s u none
+      ∙ (filter_or_none (is_batch_row j u) (is_readied j s u) (kept j) (readied-none never) ∙ sym (batch_rows-kept j u))
 
   -- the user's mail turn leaves no due moment
   pub due-turn : is_mail_turn_of u s.event ≡ true → due (j ++ s ∷ []) u ≡ None

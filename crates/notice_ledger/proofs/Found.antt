@@ -9,17 +9,9 @@ use Rattle.chat_model.specs.declared.ids.MessageId.{MessageId}
 use Rattle.chat_model.specs.declared.trigger.Way.{Way}
 use Rattle.notice_ledger.specs.Past.Owed.{Notice, is_of, same_way}
 use Rattle.notice_ledger.proofs.Apart.{Pairwise, Differ}
+pub use Rattle.notice_ledger.proofs.Behind.{find-passes}
 use Rattle.notice_ledger.proofs.Same.{same_user, same_message, same_ways}
 use Rattle.notice_ledger.proofs.Sums.{sum_by_none_where, plus_none, none_plus}
-
--- what is found passes
-pub find-passes : {X : Type 0} (p : X → Bool) (xs : List X) (x : X) → find p xs ≡ Some x → p x ≡ true
-find-passes p [] x e = absurd (cc)
-find-passes {X} p (y ∷ ys) x e = by (p y) refl e (find-passes p ys x)
-  where
-    by : (b : Bool) → p y ≡ b → cond b (Some y) (find p ys) ≡ Some x → (find p ys ≡ Some x → p x ≡ true) → p x ≡ true
-    by true h found later = let same : y ≡ x = cc in ap p (sym same) ∙ h
-    by false h found later = later found
 
 -- what is found among all is found among those that a filter keeps, where it is one of these
 pub find-kept : {X : Type 0} (p q : X → Bool) (xs : List X) (x : X) → find p xs ≡ Some x → q x ≡ true → find p (filter q xs) ≡ Some x

@@ -5,16 +5,17 @@ use Rattle.std.specs.List.{list_all}
 use Rattle.std.proofs.lemmas.Bool.{and_parts, and_from, le-ltb, ltb-false, not-false, not_from_true}
 use Rattle.chat_model.specs.declared.event.Stamped.{Stamped}
 use Rattle.chat_model.specs.declared.event.Event.TheVariants.{Asked}
+use Rattle.chat_model.specs.declared.ids.MessageId.{MessageId}
 use Rattle.chat_model.specs.declared.ids.UserId.{UserId}
 use Rattle.chat_model.specs.declared.request.Refusal.{Refusal}
-use Rattle.chat_model.specs.declared.request.Refusal.TheVariants.{NoUser, Exists, EmptyText, TextTooLong, TooMany}
+use Rattle.chat_model.specs.declared.request.Refusal.TheVariants.{NoUser, NoMessage, Exists, EmptyText, TextTooLong, TooMany}
 use Rattle.chat_model.specs.declared.request.Request.{Request}
-use Rattle.chat_model.specs.declared.request.Request.TheVariants.{AddGroup, Direct}
+use Rattle.chat_model.specs.declared.request.Request.TheVariants.{AddGroup, Direct, Read}
 use Rattle.chat_model.specs.Ascending.{ascending_once_by}
 use Rattle.chat_model.proofs.OnceEach as lists
 use Rattle.notice_ledger.specs.InOrder.{in_order, is_ascending, is_in_order}
 use Rattle.notice_ledger.specs.Past.Lawful.{may_stand}
-use Rattle.notice_ledger.specs.Past.Refusals.{Rule, first_broken, is_taken, name_rules, refusal, rule}
+use Rattle.notice_ledger.specs.Past.Refusals.{Rule, first_broken, is_taken, may_read, name_rules, refusal, rule}
 use Rattle.notice_ledger.specs.Limits.{longest_text, most_items}
 use Rattle.notice_ledger.specs.Texts.{is_blank, is_longer_than}
 use Rattle.notice_ledger.specs.Past.Values.{groups, is_one_of, is_user}
@@ -23,6 +24,9 @@ use Rattle.notice_ledger.specs.Past.Values.{groups, is_one_of, is_user}
 
 abbrev number : UserId → ℕ
 number u = u.0
+
+abbrev message_number : MessageId → ℕ
+message_number m = m.0
 
 abbrev ascending_once : List UserId → List UserId
 ascending_once us = ascending_once_by number us
@@ -36,8 +40,8 @@ ascending-distinct u us h = lists.ascending-distinct number u us h
 
 -- ---- a request whose lists are put in order
 
-ascending_once-not_many : (most : ℕ) (us : List UserId) → nat_lt most (length us) ≡ false → nat_lt most (length (ascending_once us)) ≡ false
-ascending_once-not_many most us h = le-ltb most (length (ascending_once us)) (omega (arith, ltb-false most (length us) h, lists.ascending_once-length number us))
+ascending_once-not_many : {A : Type 0} (number : A → ℕ) (most : ℕ) (xs : List A) → nat_lt most (length xs) ≡ false → nat_lt most (length (ascending_once_by number xs)) ≡ false
+ascending_once-not_many number most xs h = le-ltb most (length (ascending_once_by number xs)) (omega (arith, ltb-false most (length xs) h, lists.ascending_once-length number xs))
 
 unbroken : (broken : Bool) (why : Refusal) (rules : List Rule) → first_broken (rule broken why ∷ rules) ≡ None → (broken ≡ false) × (first_broken rules ≡ None)
 unbroken true why rules h = absurd cc
@@ -61,7 +65,7 @@ in_order-not_refused j (AddGroup name members) h =
     unbroken_from (not (list_all (is_user j) (ascending_once members))) NoUser (rule (is_taken (groups j) name) Exists ∷ few_still)
     (not_from_true (list_all (is_user j) (ascending_once members)) users_still)
     (unbroken_from (is_taken (groups j) name) Exists few_still free.0
-    (unbroken_from (nat_lt most_items (length (ascending_once members))) (TooMany most_items) named (ascending_once-not_many most_items members sized.0) sized.1))
+    (unbroken_from (nat_lt most_items (length (ascending_once members))) (TooMany most_items) named (ascending_once-not_many number most_items members sized.0) sized.1))
 in_order-not_refused j (Direct sender to text) h =
     let sized : List Rule = rule (nat_lt most_items (length to)) (TooMany most_items) ∷ [] in
     let short : List Rule = rule (is_longer_than longest_text text) TextTooLong ∷ sized in
@@ -77,12 +81,25 @@ in_order-not_refused j (Direct sender to text) h =
     (not_from_true (is_user j sender && list_all (is_user j) (ascending_once to)) users_still)
     (unbroken_from (is_blank text) EmptyText short_still some.0
     (unbroken_from (is_longer_than longest_text text) TextTooLong sized_still brief.0
-    (unbroken_from (nat_lt most_items (length (ascending_once to))) (TooMany most_items) [] (ascending_once-not_many most_items to few.0) refl)))
+    (unbroken_from (nat_lt most_items (length (ascending_once to))) (TooMany most_items) [] (ascending_once-not_many number most_items to few.0) refl)))
+in_order-not_refused j (Read user messages) h =
+    let sized : List Rule = rule (nat_lt most_items (length messages)) (TooMany most_items) ∷ [] in
+    let readable : List Rule = rule (not (list_all (may_read j user) messages)) NoMessage ∷ sized in
+    let there = unbroken (not (is_user j user)) NoUser readable h in
+    let read = unbroken (not (list_all (may_read j user) messages)) NoMessage sized there.1 in
+    let few = unbroken (nat_lt most_items (length messages)) (TooMany most_items) [] read.1 in
+    let once = ascending_once_by message_number messages in
+    let read_still : list_all (may_read j user) once ≡ true = lists.ascending_once-all message_number (may_read j user) messages (not-false (list_all (may_read j user) messages) read.0) in
+    let sized_still : List Rule = rule (nat_lt most_items (length once)) (TooMany most_items) ∷ [] in
+    unbroken_from (not (is_user j user)) NoUser (rule (not (list_all (may_read j user) once)) NoMessage ∷ sized_still) there.0
+    (unbroken_from (not (list_all (may_read j user) once)) NoMessage sized_still (not_from_true (list_all (may_read j user) once) read_still)
+    (unbroken_from (nat_lt most_items (length once)) (TooMany most_items) [] (ascending_once-not_many message_number most_items messages few.0) refl))
 in_order-not_refused j request h = h
 
 pub in_order-is_in_order : (request : Request) → is_in_order (in_order request) ≡ true
 in_order-is_in_order (AddGroup name members) = lists.ascending_once-ascending number members
 in_order-is_in_order (Direct sender to text) = lists.ascending_once-ascending number to
+in_order-is_in_order (Read user messages) = lists.ascending_once-ascending message_number messages
 in_order-is_in_order request = refl
 
 -- a request that is not refused may stand next, once its lists are in order

@@ -1,9 +1,9 @@
 -- Lists: filters, and what holds of each element.
-use Rattle.std.proofs.Common.{◌≡◌, ℕ, ◌+◌, ◌<◌, Bool, true, false, ◌&&◌, cond, List, [], ◌∷◌, ◌++◌, length, take, get_or, Option, Some, None, refl, sym, ap, ◌∙◌, subst, arith}
+use Rattle.std.proofs.Common.{◌≡◌, ℕ, ◌+◌, ◌<◌, Bool, true, false, ◌&&◌, ◌||◌, cond, List, [], ◌∷◌, ◌++◌, length, take, get_or, Option, Some, None, refl, sym, ap, ◌∙◌, subst, arith}
 use Rattle.std.specs.Prelude.{filter, find, count_by, is_some}
 use Rattle.std.proofs.lemmas.List.{append_assoc, append-nil, take_more}
 use Rattle.std.proofs.lemmas.List.Sums.{sum_by-cons}
-use Rattle.std.specs.List.{AllByRecursion, filter_map, flat_map, cons_option}
+use Rattle.std.specs.List.{AllByRecursion, filter_map, flat_map, list_any, cons_option}
 
 -- a filter that keeps each element
 pub filter_all : {X : Type 0} (p : X → Bool) → ((x : X) → p x ≡ true) → (xs : List X) → filter p xs ≡ xs
@@ -14,6 +14,25 @@ filter_all p h (x ∷ xs) = rw (h x) (ap (λ ys. x ∷ ys) (filter_all p h xs))
 pub filter_none : {X : Type 0} (p : X → Bool) → ((x : X) → p x ≡ false) → (xs : List X) → filter p xs ≡ []
 filter_none p h [] = refl
 filter_none p h (x ∷ xs) = rw (h x) (filter_none p h xs)
+
+-- a further test that no element passes
+pub filter_or_none : {X : Type 0} (p q : X → Bool) (xs : List X) → list_any q xs ≡ false → filter (λ x. p x || q x) xs ≡ filter p xs
+filter_or_none p q [] none = refl
+filter_or_none {X} p q (x ∷ xs) none = by (q x) refl none (filter_or_none p q xs)
+  where
+    or_no : (b : Bool) → (b || false) ≡ b
+    or_no true = refl
+    or_no false = refl
+
+    by : (b : Bool) → q x ≡ b → (b || list_any q xs) ≡ false → (list_any q xs ≡ false → filter (λ x. p x || q x) xs ≡ filter p xs) → filter (λ x. p x || q x) (x ∷ xs) ≡ filter p (x ∷ xs)
+    by true e h rest = absurd (cc)
+    by false e h rest =
+        ap (λ b. cond b (x ∷ filter (λ x. p x || q x) xs) (filter (λ x. p x || q x) xs)) (ap (λ b. p x || b) e ∙ or_no (p x)) ∙ ap (λ ys. cond (p x) (x ∷ ys) ys) (rest h)
+
+-- two tests that agree filter alike
+pub filter_same : {X : Type 0} (p q : X → Bool) → ((x : X) → p x ≡ q x) → (xs : List X) → filter p xs ≡ filter q xs
+filter_same p q h [] = refl
+filter_same p q h (x ∷ xs) = rw (h x) (ap (λ ys. cond (q x) (x ∷ ys) ys) (filter_same p q h xs))
 
 -- two tests that agree where P holds filter alike
 pub filter_same_where : {X : Type 0} (P : X → Type 0) (p q : X → Bool) → ((x : X) → P x → p x ≡ q x) → (xs : List X) → AllByRecursion P xs → filter p xs ≡ filter q xs

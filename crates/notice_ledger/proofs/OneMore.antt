@@ -1,37 +1,32 @@
--- Accounts, rows, batch rows, due moments, members and subscribers at a journal with one more event.
+-- Accounts, rows, due moments, members and subscribers at a journal with one more event.
 use Rattle.std.proofs.Common.{◌≡◌, ℕ, ◌<◌, Bool, true, false, ◌&&◌, cond, not, List, [], ◌∷◌, ◌++◌, length, map, refl, sym, ap, ◌∙◌}
 use Rattle.std.specs.Prelude.{Option, Some, None, option_map, option_and_then, option_to_list, unwrap_or, is_some, filter, find, count_by, if◌then◌else◌}
 use Rattle.std.specs.Option.{option_map_or, option_or}
 use Rattle.std.specs.List.{AllByRecursion, filter_map, cons_option, reduce}
-use Rattle.std.proofs.lemmas.List.{append-nil}
-use Rattle.std.proofs.lemmas.List.Elements.{filter-append, filter_map-append}
+use Rattle.std.proofs.lemmas.List.Elements.{filter_map-append}
 use Rattle.std.proofs.lemmas.List.Folds.{find-append}
-use Rattle.std.proofs.Math.Bool.{and-false}
 use Rattle.chat_model.specs.declared.event.Stamped.{Stamped}
 use Rattle.chat_model.specs.declared.ids.UserId.{UserId}
 use Rattle.chat_model.specs.declared.ids.MessageId.{MessageId}
 use Rattle.chat_model.specs.declared.ids.ChannelId.{ChannelId}
 use Rattle.chat_model.specs.declared.ids.GroupId.{GroupId}
-use Rattle.chat_model.specs.declared.row.Cause.TheVariants.{SwitchedOff}
 use Rattle.chat_model.specs.declared.row.Row.{Row}
 use Rattle.chat_model.specs.declared.row.Row.TheVariants as row
 use Rattle.chat_model.specs.declared.row.Stage.{Stage}
 use Rattle.chat_model.specs.declared.row.Stage.TheVariants as stage
 use Rattle.chat_model.specs.declared.trigger.Way.{Way}
 use Rattle.notice_ledger.specs.declared.accounts.Account.{Account}
-use Rattle.notice_ledger.specs.declared.accounts.Account.TheVariants.{NotOwed, Flight, Held, Ready, Handed, Cancelled}
+use Rattle.notice_ledger.specs.declared.accounts.Account.TheVariants.{NotOwed, Flight, Held, Ready, Cancelled}
 use Rattle.notice_ledger.specs.Past.Journal.{Occurrence, occurrence}
 use Rattle.notice_ledger.specs.Past.Values.{users, is_member, membership_change, member_count, subscribed, subscription_change, subscriber_count}
-use Rattle.notice_ledger.specs.Past.Owed.{Notice, is_of, notices, owed_by, ready, was_cleared, was_dealt, turn, switch_on, decided, account_by, account_of, account, is_pending, waiting}
+use Rattle.notice_ledger.specs.Past.Owed.{Notice, is_of, notices, owed_by, ready, was_cleared, account_of, account, is_pending, waiting}
 use Rattle.notice_ledger.specs.Past.Rows.{stage_of, pending_row}
-use Rattle.notice_ledger.specs.Past.Due.{batch_rows, due_user, first_due, sooner}
-use Rattle.notice_ledger.specs.Past.Audit.{same_account}
-use Rattle.notice_ledger.proofs.Lists.{filter_same_where}
+use Rattle.notice_ledger.specs.Past.Due.{due_user, first_due, sooner}
 use Rattle.notice_ledger.proofs.Appended.{notices-append, is_member-append, subscribed-append}
 use Rattle.notice_ledger.proofs.Behind.{find_all}
-use Rattle.notice_ledger.proofs.Standing.{is_turn, is_readying, is_clearing, is_dealing, moved, ready-append, account_of-plain, account_of-append, stage_after, stage_of-append, stage_after-same}
+use Rattle.notice_ledger.proofs.Standing.{is_turn, is_readying, is_clearing, is_dealing, is_barring, moved, ready-append, account_of-append, stage_after, stage_of-append, stage_after-same}
 use Rattle.notice_ledger.proofs.Waiting.{IsOwedBy, owed_by-each, notices-placed, account_of-new}
-use Rattle.notice_ledger.proofs.Batches.{is_mail_of, is_ready_mail_of, batch_rows-ready}
+use Rattle.notice_ledger.proofs.Queued.{is_queued, queued-account, ready-queued, pending-unbarred, unqueued-unready, queued-ready}
 use Rattle.notice_ledger.proofs.Stamps.{ready_stamp}
 use Rattle.notice_ledger.proofs.Sums.{sum_by_same}
 use Rattle.notice_ledger.proofs.There.{added_user, users-append}
@@ -71,13 +66,13 @@ pub pending_row-append : (j : List Stamped) (s : Stamped) (n : Notice) → n.owi
 pending_row-append j s n placed = ap (option_map (row_at_stage n)) (stage_of-append j s n placed)
 
 -- a notice to which an event is nothing keeps its row
-pub pending_row-same : (j : List Stamped) (s : Stamped) (n : Notice) → n.owing.place < length j → is_turn s n ≡ false → is_readying s n ≡ false → is_clearing s n ≡ false → is_dealing s n ≡ false → pending_row (j ++ s ∷ []) n ≡ pending_row j n
-pending_row-same j s n placed tn rd cl dl =
+pub pending_row-same : (j : List Stamped) (s : Stamped) (n : Notice) → n.owing.place < length j → is_turn s n ≡ false → is_readying s n ≡ false → is_clearing s n ≡ false → is_dealing s n ≡ false → is_barring s n ≡ false → pending_row (j ++ s ∷ []) n ≡ pending_row j n
+pending_row-same j s n placed tn rd cl dl bars =
     pending_row-append j s n placed ∙ ap (option_map (row_at_stage n)) (by (stage_of (account_of j n)))
   where
     by : (o : Option Stage) → option_and_then (stage_after s n) o ≡ o
     by None = refl
-    by (Some g) = stage_after-same s n g tn rd cl dl
+    by (Some g) = stage_after-same s n g tn rd cl dl bars
 
 filter_map_same_where : {X Y : Type 0} (P : X → Type 0) (f g : X → Option Y) → ((x : X) → P x → f x ≡ g x) → (xs : List X) → AllByRecursion P xs → filter_map f xs ≡ filter_map g xs
 filter_map_same_where P f g h [] all = refl
@@ -112,25 +107,7 @@ pending_rows-waiting j = each (notices j)
     each [] = refl
     each (n ∷ ns) = one n (account_of j n) (filter_map (pending_row j) ns) (filter (λ n. is_pending (account_of j n)) ns) (each ns) refl
 
--- ---- batch rows and due moments
-
--- after an event a batch row is a waiting mail notice that is ready then; what the event owes is no batch row yet
-pub batch_rows-append : (j : List Stamped) (s : Stamped) (u : UserId) → batch_rows (j ++ s ∷ []) u ≡ filter (λ n. is_mail_of u n && same_account (moved j s n (account_of j n)) Ready) (notices j)
-batch_rows-append j s u =
-    let later = is_ready_mail_of (j ++ s ∷ []) u in
-    batch_rows-ready (j ++ s ∷ []) u
-    ∙ (ap (filter later) (notices-append j s)
-    ∙ (filter-append later (notices j) (owed_by (occurrence j s))
-    ∙ (ap (λ ns. filter later (notices j) ++ ns) (none (owed_by (occurrence j s)) (owed_by-each (occurrence j s)))
-    ∙ (append-nil (filter later (notices j))
-    ∙ filter_same_where (λ n. n.owing.place < length j) later (λ n. is_mail_of u n && same_account (moved j s n (account_of j n)) Ready)
-    (λ n placed. ap (λ a. is_mail_of u n && same_account a Ready) (account_of-append j s n placed)) (notices j) (notices-placed j)))))
-  where
-    none : (ns : List Notice) → AllByRecursion (IsOwedBy (occurrence j s)) ns → filter (is_ready_mail_of (j ++ s ∷ []) u) ns ≡ []
-    none [] all = refl
-    none (n ∷ ns) all =
-        ap (λ b. cond b (n ∷ filter (is_ready_mail_of (j ++ s ∷ []) u) ns) (filter (is_ready_mail_of (j ++ s ∷ []) u) ns)) (ap (λ a. is_mail_of u n && same_account a Ready) (account_of-new j s n all.0) ∙ and-false (is_mail_of u n))
-        ∙ none ns all.1
+-- ---- due moments
 
 -- the stamp of a notice's ready event, with one more event
 pub ready_stamp-append : (j : List Stamped) (s : Stamped) (n : Notice) → n.owing.place < length j → ready_stamp (j ++ s ∷ []) n ≡ option_or (ready_stamp j n) (cond (is_readying s n && not (was_cleared j n)) (Some s.at) None)
@@ -148,21 +125,42 @@ stamp_by readies at _ before = if readies then Some at else None
 
 pub ready_stamp-stage : (j : List Stamped) (s : Stamped) (n : Notice) (g : Stage) → n.owing.place < length j → stage_of (account_of j n) ≡ Some g → ready_stamp (j ++ s ∷ []) n ≡ stamp_by (is_readying s n) s.at g (ready_stamp j n)
 ready_stamp-stage j s n g placed at_stage =
-    ready_stamp-append j s n placed
-    ∙ by (turn j n) (ready j n) (was_cleared j n) (was_dealt j n) (is_readying s n) (sym (ap stage_of (account_of-plain j n)) ∙ at_stage)
+    ready_stamp-append j s n placed ∙ by (is_queued j n) refl
   where
-    was_decided : (b : Bool) → stage_of (if b then Handed else Cancelled SwitchedOff) ≡ Some g → ⊥
-    was_decided true e = cc
-    was_decided false e = cc
+    -- what is pending stays behind a ready event at one stage
+    at_ready : (a : Account) → (a ≡ Ready → ⊥) → stage_of a ≡ Some g → stage.Ready ≡ g → ⊥
+    at_ready Flight other e same = let is : stage.Flight ≡ g = cc in cc
+    at_ready Held other e same = let is : stage.Held ≡ g = cc in cc
+    at_ready Ready other e same = other refl
+    at_ready a other e same = cc
 
-    by : (t r : Option Occurrence) (c d rd : Bool) → stage_of (account_by (option_map (decided n) t) None (is_some r) c d) ≡ Some g → option_or (option_map (λ o. o.at) r) (cond (rd && not c) (Some s.at) None) ≡ stamp_by rd s.at g (option_map (λ o. o.at) r)
-    by (Some x) r c d rd e = absurd (was_decided (switch_on x.past n.user n.way) e)
-    by None (Some o) c d rd e = let same : stage.Ready ≡ g = cc in ap (λ h. stamp_by rd s.at h (Some o.at)) same
-    by None None true d rd e = absurd (cc)
-    by None None false true true e = let same : stage.Held ≡ g = cc in ap (λ h. stamp_by true s.at h None) same
-    by None None false true false e = let same : stage.Held ≡ g = cc in ap (λ h. stamp_by false s.at h None) same
-    by None None false false true e = let same : stage.Flight ≡ g = cc in ap (λ h. stamp_by true s.at h None) same
-    by None None false false false e = let same : stage.Flight ≡ g = cc in ap (λ h. stamp_by false s.at h None) same
+    pending : (a : Account) → stage_of a ≡ Some g → is_pending a ≡ true
+    pending Flight e = refl
+    pending Held e = refl
+    pending Ready e = refl
+    pending a e = absurd (cc)
+
+    queued : (o : Occurrence) → ready j n ≡ Some o → stage.Ready ≡ g → option_or (ready_stamp j n) (cond (is_readying s n && not (was_cleared j n)) (Some s.at) None) ≡ stamp_by (is_readying s n) s.at g (ready_stamp j n)
+    queued o e same = ap (λ (r : Option Occurrence). option_or (option_map (λ o. o.at) r) (cond (is_readying s n && not (was_cleared j n)) (Some s.at) None)) e ∙ (ap (λ h. stamp_by (is_readying s n) s.at h (Some o.at)) same ∙ ap (λ (r : Option Occurrence). stamp_by (is_readying s n) s.at g (option_map (λ o. o.at) r)) (sym e))
+
+    unready : (h : Stage) (rd : Bool) → (stage.Ready ≡ h → ⊥) → cond (rd && true) (Some s.at) None ≡ stamp_by rd s.at h None
+    unready stage.Flight true other = refl
+    unready stage.Flight false other = refl
+    unready stage.Held true other = refl
+    unready stage.Held false other = refl
+    unready stage.Ready rd other = absurd (other refl)
+
+    by : (q : Bool) → is_queued j n ≡ q → option_or (ready_stamp j n) (cond (is_readying s n && not (was_cleared j n)) (Some s.at) None) ≡ stamp_by (is_readying s n) s.at g (ready_stamp j n)
+    by true h =
+        let found = queued-ready j n h in
+        let at : account_of j n ≡ Ready = queued-account j n h ∙ ap (λ c. option_map_or Cancelled c Ready) (pending-unbarred j n (pending (account_of j n) at_stage)) in
+        let same : Some stage.Ready ≡ Some g = sym (ap stage_of at) ∙ at_stage in
+        queued found.0 found.1 (cc)
+    by false h =
+        let none = unqueued-unready j n (pending (account_of j n) at_stage) h in
+        (λ i. option_or (option_map (λ o. o.at) (none.no_event i)) (cond (is_readying s n && not (none.not_cleared i)) (Some s.at) None))
+        ∙ (unready g (is_readying s n) (at_ready (account_of j n) (λ at. let no : false ≡ true = sym h ∙ ready-queued j n at in cc) at_stage)
+        ∙ ap (λ (r : Option Occurrence). stamp_by (is_readying s n) s.at g (option_map (λ o. o.at) r)) (sym none.no_event))
 
 -- the least due moment is sought among the users of the journal and one that the event may add
 pub first_due-append : (j : List Stamped) (s : Stamped) → first_due (j ++ s ∷ []) ≡ reduce sooner (filter_map (due_user (j ++ s ∷ [])) (users j ++ option_to_list (added_user j s)))

@@ -78,6 +78,14 @@ module _ (u : UserId) (m : MessageId) (w : Way) where
       by Mail = none (v.0 == u.0 && i.message.0 == m.0)
       by Push = whole (v.0 == u.0 && i.message.0 == m.0)
 
+  -- a removal has none
+  no_removal : (v : UserId) (name : List ℕ) (at : ℕ) (ms : List MessageId) → items_of u m w (entry.Remove v name at ms) ≡ 0
+  no_removal v name at ms = by w
+    where
+      by : (x : Way) → items_of u m x (entry.Remove v name at ms) ≡ 0
+      by Mail = refl
+      by Push = refl
+
   -- the item of a notice is one of it
   mail_item : (j : List Stamped) (n : Notice) → n.way ≡ Mail → of_it Mail n.user (item j n) ≡ cond (is_of u m w n) 1 0
   unfolding of_it
@@ -107,7 +115,7 @@ module _ (u : UserId) (m : MessageId) (w : Way) where
       let k = lawful j in
       let it : Notice → ℕ = λ n. cond (is_of u m w n) 1 0 in
       ap (λ a. a + sum_by (items_of u m w) (outbox k)) (waiting_sum k)
-      ∙ (ap (λ b. sum_by (λ n. cond (is_pending (account_of k n)) (it n) 0) (notices k) + b) (outbox-handed (items_of u m w) (of_it Mail) (of_it Push) it entry_items push_items mail_item push_item j)
+      ∙ (ap (λ b. sum_by (λ n. cond (is_pending (account_of k n)) (it n) 0) (notices k) + b) (outbox-handed (items_of u m w) (of_it Mail) (of_it Push) it entry_items push_items no_removal mail_item push_item j)
       ∙ sym (sum_by_both_where (λ _. Unit {0}) (λ n. cond (is_of u m w n) (placed (account_of k n)) 0)
       (λ n. cond (is_pending (account_of k n)) (it n) 0) (λ n. cond (is_handed (account_of k n)) (it n) 0)
       (λ n _. placed_parts (is_of u m w n) (account_of k n)) (notices k) (AllByRecursion-from_all (λ _. Unit {0}) (λ _. tt) (notices k))))
@@ -142,3 +150,23 @@ module _ (u : UserId) (m : MessageId) (w : Way) where
   -- a notice that is not owed neither waits nor stands in the outbox
   pub places-not_owed : (j : List Stamped) → account (lawful j) u m w ≡ NotOwed → count_by (is_of u m w) (waiting (lawful j)) + sum_by (items_of u m w) (outbox (lawful j)) ≡ 0
   places-not_owed j h = places j ∙ no_place (lawful j) (find (is_of u m w) (notices (lawful j))) h
+
+  -- a notice that lawful events owe is one item of the outbox where it was handed over, and else none
+  pub outbox-counted : (j : List Stamped) → sum_by (items_of u m w) (outbox (lawful j)) ≡ cond (is_handed (account (lawful j) u m w)) 1 0
+  outbox-counted j =
+      let k = lawful j in
+      let it : Notice → ℕ = λ n. cond (is_of u m w n) 1 0 in
+      let handed : Notice → ℕ = λ n. cond (is_handed (account_of k n)) 1 0 in
+      outbox-handed (items_of u m w) (of_it Mail) (of_it Push) it entry_items push_items no_removal mail_item push_item j
+      ∙ (sum_by_same (λ n. cond (is_handed (account_of k n)) (it n) 0) (λ n. cond (is_of u m w n) (handed n) 0) (λ n. turned (is_handed (account_of k n)) (is_of u m w n)) (notices k)
+      ∙ (only_found u m w handed (notices k) (notices-apart k) ∙ found k (find (is_of u m w) (notices k))))
+    where
+      turned : (a b : Bool) → ◌≡◌ {A = ℕ} (cond a (cond b 1 0) 0) (cond b (cond a 1 0) 0)
+      turned true true = refl
+      turned true false = refl
+      turned false true = refl
+      turned false false = refl
+
+      found : (k : List Stamped) (o : Option Notice) → ◌≡◌ {A = ℕ} (option_map_or (λ n. cond (is_handed (account_of k n)) 1 0) o 0) (cond (is_handed (option_map_or (account_of k) o NotOwed)) 1 0)
+      found k None = refl
+      found k (Some n) = refl

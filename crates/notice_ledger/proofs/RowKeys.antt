@@ -1,6 +1,6 @@
 -- No key stands twice among what has a row.
-use Rattle.std.proofs.Common.{◌≡◌, ◌≢◌, ℕ, ◌+◌, ◌<◌, Bool, true, false, ◌&&◌, ◌==◌, List, [], ◌∷◌, ◌++◌, refl, sym, ap, ◌∙◌, arith}
-use Rattle.std.specs.Prelude.{Option, Some, None, option_map, if◌then◌else◌}
+use Rattle.std.proofs.Common.{◌≡◌, ◌≢◌, ℕ, ◌+◌, ◌<◌, Bool, true, false, ◌&&◌, ◌==◌, not, List, [], ◌∷◌, ◌++◌, refl, sym, ap, ◌∙◌, arith}
+use Rattle.std.specs.Prelude.{Option, Some, None, option_map, is_some, if◌then◌else◌}
 use Rattle.std.specs.declared.cmp.Ordering.{Ordering}
 use Rattle.std.specs.declared.cmp.Ordering.TheVariants.{Less, Equal, Greater}
 use Rattle.std.specs.Ordering.{is_eq}
@@ -18,11 +18,13 @@ use Rattle.chat_model.specs.declared.row.Stage.{Stage}
 use Rattle.chat_model.specs.Rows.{key_cmp, key_of}
 use Rattle.chat_model.proofs.Keys.{same_key, users_ascend, messages_ascend, outbox_ascends}
 use Rattle.notice_ledger.specs.Past.Values.{Person, people, SentMessage, messages}
-use Rattle.notice_ledger.specs.Past.Owed.{Notice, notices, account_of, same_way, is_handed}
+use Rattle.notice_ledger.specs.Past.Owed.{Notice, notices, account_of, same_way}
+use Rattle.notice_ledger.specs.Past.Pushes.{handed_at, is_removal_written}
 use Rattle.notice_ledger.specs.Past.Outbox.{outbox}
 use Rattle.notice_ledger.specs.Past.Rows.{user_rows_from, message_rows_from, outbox_rows_from, stage_of, pending_row, active_row, listed_rows}
 use Rattle.notice_ledger.proofs.Lists.{AllByRecursion-append, AllByRecursion-weaker, AllByRecursion-filter_map}
 use Rattle.notice_ledger.proofs.Apart.{Pairwise, Pairwise-append, Differ, notices-apart}
+use Rattle.notice_ledger.proofs.Revoked.{handed_at-push}
 use Rattle.notice_ledger.proofs.Same.{same_ways}
 
 -- ---- keys
@@ -81,13 +83,13 @@ users_apart : (j : List Stamped) (n : ℕ) (ps : List Person) → Pairwise Apart
 users_apart j n [] = tt
 users_apart j n (p ∷ ps) = (later_users j n (n + 1) (omega arith) ps, users_apart j (n + 1) ps)
 
-later_messages : (low n : ℕ) → low < n → (ms : List SentMessage) → AllByRecursion (λ r. is_eq (key_cmp (key.Message (record { 0 = low })) (key_of r)) ≡ false) (message_rows_from n ms)
-later_messages low n h [] = tt
-later_messages low n h (m ∷ ms) = (ap is_eq (messages_ascend (record { 0 = low }) (record { 0 = n }) h), later_messages low (n + 1) (omega arith) ms)
+later_messages : (j : List Stamped) (low n : ℕ) → low < n → (ms : List SentMessage) → AllByRecursion (λ r. is_eq (key_cmp (key.Message (record { 0 = low })) (key_of r)) ≡ false) (message_rows_from j n ms)
+later_messages j low n h [] = tt
+later_messages j low n h (m ∷ ms) = (ap is_eq (messages_ascend (record { 0 = low }) (record { 0 = n }) h), later_messages j low (n + 1) (omega arith) ms)
 
-messages_apart : (n : ℕ) (ms : List SentMessage) → Pairwise Apart (message_rows_from n ms)
-messages_apart n [] = tt
-messages_apart n (m ∷ ms) = (later_messages n (n + 1) (omega arith) ms, messages_apart (n + 1) ms)
+pub messages_apart : (j : List Stamped) (n : ℕ) (ms : List SentMessage) → Pairwise Apart (message_rows_from j n ms)
+messages_apart j n [] = tt
+messages_apart j n (m ∷ ms) = (later_messages j n (n + 1) (omega arith) ms, messages_apart j (n + 1) ms)
 
 later_entries : (low n : ℕ) → low < n → (es : List Entry) → AllByRecursion (λ r. is_eq (key_cmp (key.Outbox (record { 0 = low })) (key_of r)) ≡ false) (outbox_rows_from n es)
 later_entries low n h [] = tt
@@ -167,12 +169,12 @@ record IsActiveRow (n : Notice) (r : Row) : Type 0 where
   row : r ≡ row.Active n.user n.number
 
 active_row-is : (j : List Stamped) (n : Notice) (r : Row) → active_row j n ≡ Some r → IsActiveRow n r
-active_row-is j n r e = by (same_way n.way Push) (is_handed (account_of j n)) refl e
+active_row-is j n r e = by (is_some (handed_at j n)) (is_removal_written j n) refl e
   where
-    by : (push handed : Bool) → same_way n.way Push ≡ push → (if push && handed then Some (row.Active n.user n.number) else None) ≡ Some r → IsActiveRow n r
-    by true true p h = record { push = p; row = cc }
-    by true false p h = absurd (cc)
-    by false handed p h = absurd (cc)
+    by : (handed written : Bool) → is_some (handed_at j n) ≡ handed → (if handed && not written then Some (row.Active n.user n.number) else None) ≡ Some r → IsActiveRow n r
+    by true false p h = record { push = handed_at-push j n p; row = cc }
+    by true true p h = absurd (cc)
+    by false written p h = absurd (cc)
 
 pub active_apart : (j : List Stamped) → Pairwise Apart (filter_map (active_row j) (notices j))
 active_apart j = Pairwise-filter_map Differ Apart (active_row j) (λ x y a b d ex ey.
@@ -190,9 +192,9 @@ pub users_table : (j : List Stamped) (n : ℕ) (ps : List Person) → AreInTable
 users_table j n [] = tt
 users_table j n (p ∷ ps) = (refl, users_table j (n + 1) ps)
 
-pub messages_table : (n : ℕ) (ms : List SentMessage) → AreInTable 1 (message_rows_from n ms)
-messages_table n [] = tt
-messages_table n (m ∷ ms) = (refl, messages_table (n + 1) ms)
+pub messages_table : (j : List Stamped) (n : ℕ) (ms : List SentMessage) → AreInTable 1 (message_rows_from j n ms)
+messages_table j n [] = tt
+messages_table j n (m ∷ ms) = (refl, messages_table j (n + 1) ms)
 
 pub pending_table : (j : List Stamped) (ns : List Notice) → AreInTable 2 (filter_map (pending_row j) ns)
 pending_table j ns = AllByRecursion-filter_map (λ r. table (key_of r) ≡ 2) (pending_row j) (λ n r e. ap table (pending_row-key j n r e)) ns
@@ -220,15 +222,15 @@ later_tables t xs ys = AllByRecursion-append (λ r. t < table (key_of r)) xs ys
 -- no two of what has a row have one key
 pub listed_rows-apart : (j : List Stamped) → Pairwise Apart (listed_rows j)
 listed_rows-apart j =
-    let us = user_rows_from j 1 (people j) in let ms = message_rows_from 1 (messages j) in let ps = filter_map (pending_row j) (notices j) in let actives = filter_map (active_row j) (notices j) in let os = outbox_rows_from 1 (outbox j) in
+    let us = user_rows_from j 1 (people j) in let ms = message_rows_from j 1 (messages j) in let ps = filter_map (pending_row j) (notices j) in let actives = filter_map (active_row j) (notices j) in let os = outbox_rows_from 1 (outbox j) in
     let of_users = users_table j 1 (people j) in
-    let of_messages = messages_table 1 (messages j) in
+    let of_messages = messages_table j 1 (messages j) in
     let of_pending = pending_table j (notices j) in
     let of_active = active_table j (notices j) in
     let of_outbox = outbox_table 1 (outbox j) in
     let behind = λ (t : ℕ) (h : t < 3). later_tables t actives os (later_table t 3 actives h of_active) (later_table t 4 os (omega arith) of_outbox) in
     Pairwise-append Apart us (ms ++ (ps ++ (actives ++ os))) (users_apart j 1 (people j))
-    (Pairwise-append Apart ms (ps ++ (actives ++ os)) (messages_apart 1 (messages j))
+    (Pairwise-append Apart ms (ps ++ (actives ++ os)) (messages_apart j 1 (messages j))
     (Pairwise-append Apart ps (actives ++ os) (pending_apart j)
     (Pairwise-append Apart actives os (active_apart j) (outbox_apart 1 (outbox j)) (across 3 actives os of_active (later_table 3 4 os (omega arith) of_outbox)))
     (across 2 ps (actives ++ os) of_pending (behind 2 (omega arith))))

@@ -6,7 +6,7 @@ use Rattle.std.proofs.lemmas.Bool.{and_parts, ltb-true}
 use Rattle.std.proofs.lemmas.List.Elements.{All-nil, All-cons, All-from_recursion}
 use Rattle.chat_model.specs.declared.event.Stamped.{Stamped}
 use Rattle.chat_model.specs.declared.request.Request.{Request}
-use Rattle.chat_model.specs.declared.request.Request.TheVariants.{AddUser, AddGroup, Member, AddChannel, Subscribe, Set, SetChannel, SetPolicy, Mute, Send, Direct}
+use Rattle.chat_model.specs.declared.request.Request.TheVariants.{AddUser, AddGroup, Member, AddChannel, Subscribe, Set, SetChannel, SetPolicy, Mute, Send, Direct, Delete, Read}
 use Rattle.chat_model.specs.declared.request.Refusal.{Refusal}
 use Rattle.chat_model.specs.Ascending.{is_ascending_by}
 use Rattle.chat_model.specs.Refusals.{refusal_number}
@@ -29,6 +29,8 @@ rules_of-ascend j (SetPolicy user channel topic policy) = refl
 rules_of-ascend j (Mute user other on) = refl
 rules_of-ascend j (Send sender channel topic text) = refl
 rules_of-ascend j (Direct sender to text) = refl
+rules_of-ascend j (Delete user message) = refl
+rules_of-ascend j (Read user messages) = refl
 
 -- no later rule has a lesser number
 ascend-least : (r : Rule) (rules : List Rule) → is_ascending_by number (r ∷ rules) ≡ true → AllByRecursion (λ q. number r ≤ number q) rules

@@ -1,31 +1,15 @@
 -- The first event behind a place that passes a test, found by going through the events one after another.
 use Rattle.std.proofs.Common.{◌≡◌, ℕ, ◌+◌, ◌<◌, ◌≤◌, Bool, true, false, ◌&&◌, cond, List, [], ◌∷◌, ◌++◌, length, take, drop, get_or, sym, ap, ◌∙◌, arith}
-use Rattle.std.specs.Prelude.{Option, Some, None, find, nat_lt}
+use Rattle.std.specs.Prelude.{Some, None, nat_lt}
 use Rattle.std.specs.Option.{option_or}
-use Rattle.std.proofs.lemmas.List.{append-nil, append_assoc, length-take-le, take-append-drop, take_all}
-use Rattle.std.proofs.lemmas.List.Folds.{find-append}
+use Rattle.std.proofs.lemmas.List.{length-take-le, take-append-drop, take_all}
 use Rattle.chat_model.specs.declared.event.Stamped.{Stamped}
-use Rattle.notice_ledger.specs.Past.Journal.{Occurrence, occurrence, occurrences, occurrences_after, first_behind}
+use Rattle.notice_ledger.specs.Past.Journal.{Occurrence, occurrence, first_behind}
 use Rattle.notice_ledger.proofs.Lists.{take_next}
 use Rattle.notice_ledger.proofs.Appended.{first_behind-append}
-
-occurrences_after-more : (past j k : List Stamped) → occurrences_after past (j ++ k) ≡ occurrences_after past j ++ occurrences_after (past ++ j) k
-occurrences_after-more past [] k = ap (λ p. occurrences_after p k) (sym (append-nil past))
-occurrences_after-more past (s ∷ j) k =
-    ap (λ os. occurrence past s ∷ os) (occurrences_after-more (past ++ s ∷ []) j k ∙ ap (λ p. occurrences_after (past ++ s ∷ []) j ++ occurrences_after p k) (append_assoc past (s ∷ []) j))
-
-found_or : {A : Type 0} (o : Option A) (p : Option A) (a : A) → o ≡ Some a → option_or o p ≡ Some a
-found_or o p a e = ap (λ q. option_or q p) e
+use Rattle.notice_ledger.proofs.Behind.{found-longer, first_behind-past}
 
 module _ (place : ℕ) (test : Occurrence → Bool) where
-  -- what is found stays found when more events come
-  front : (j k : List Stamped) (o : Occurrence) → first_behind place test j ≡ Some o → first_behind place test (j ++ k) ≡ Some o
-  unfolding occurrences
-  front j k o e =
-      ap (find (λ o. nat_lt place o.place && test o)) (occurrences_after-more [] j k)
-      ∙ (find-append (λ o. nat_lt place o.place && test o) (occurrences_after [] j) (occurrences_after j k)
-      ∙ found_or (find (λ o. nat_lt place o.place && test o) (occurrences_after [] j)) (find (λ o. nat_lt place o.place && test o) (occurrences_after j k)) o e)
-
   -- one more event where none was found
   one_more : (j : List Stamped) (s : Stamped) → first_behind place test j ≡ None → first_behind place test (j ++ s ∷ []) ≡ cond (nat_lt place (length j) && test (occurrence j s)) (Some (occurrence j s)) None
   one_more j s none =
@@ -40,11 +24,17 @@ module _ (place : ℕ) (test : Occurrence → Bool) where
       ap (λ k. first_behind place test k) (take_next j i s lt at)
       ∙ (one_more (take i j) s none ∙ ap (λ b. cond b (Some (occurrence (take i j) s)) None) (at_length j i s lt ∙ other))
 
+  -- an event that isn't behind the place, and the search goes on
+  pub none-before : (j : List Stamped) (i : ℕ) → i < length j → i ≤ place → first_behind place test (take (i + 1) j) ≡ None
+  none-before j i lt le =
+      let long : length (take (i + 1) j) ≡ i + 1 = length-take-le (i + 1) j (omega arith) in
+      first_behind-past place test (take (i + 1) j) (omega (arith, long))
+
   -- it passes, and is the first
   pub found-next : (j : List Stamped) (i : ℕ) (s : Stamped) → i < length j → s ≡ get_or j i s → first_behind place test (take i j) ≡ None → (nat_lt place i && test (occurrence (take i j) s)) ≡ true → first_behind place test j ≡ Some (occurrence (take i j) s)
   found-next j i s lt at none passes =
       ap (λ k. first_behind place test k) (sym (take-append-drop (i + 1) j) ∙ ap (λ k. k ++ drop (i + 1) j) (take_next j i s lt at))
-      ∙ front (take i j ++ s ∷ []) (drop (i + 1) j) (occurrence (take i j) s)
+      ∙ found-longer place test (take i j ++ s ∷ []) (drop (i + 1) j) (occurrence (take i j) s)
       (one_more (take i j) s none ∙ ap (λ b. cond b (Some (occurrence (take i j) s)) None) (at_length j i s lt ∙ passes))
 
   -- none of all passes

@@ -1,21 +1,22 @@
 -- Each notice is of a message of the journal, and each message makes a deal.
-use Rattle.std.proofs.Common.{◌≡◌, ℕ, zero, suc, ◌+◌, Bool, false, ◌&&◌, ◌||◌, ◌==◌, List, [], ◌∷◌, ◌++◌, length, refl, sym, ap, ◌∙◌, subst, add-one, length-append}
-use Rattle.std.specs.Prelude.{Option, Some, None, option_map, option_to_list, slice_get, cond, is_some, MatchOption}
+use Rattle.std.proofs.Common.{◌≡◌, ℕ, zero, suc, ◌+◌, Bool, true, false, ◌&&◌, ◌||◌, ◌==◌, List, [], ◌∷◌, ◌++◌, length, refl, sym, ap, ◌∙◌, subst, add-one, arith, length-append}
+use Rattle.std.specs.Prelude.{Option, Some, None, option_map, option_to_list, slice_get, cond, is_some, not, MatchOption}
 use Rattle.std.specs.Option.{option_map_or}
-use Rattle.std.specs.List.{AllByRecursion, filter_map, list_any, cons_option}
+use Rattle.std.specs.List.{AllByRecursion, filter_map}
 use Rattle.chat_model.specs.declared.event.Stamped.{Stamped}
 use Rattle.chat_model.specs.declared.event.Event.{Event}
 use Rattle.chat_model.specs.declared.ids.ChannelId.{ChannelId}
+use Rattle.chat_model.specs.declared.ids.MessageId.{MessageId}
 use Rattle.chat_model.specs.declared.ids.UserId.{UserId}
 use Rattle.chat_model.specs.declared.trigger.Way.{Way}
 use Rattle.chat_model.specs.declared.trigger.Way.TheVariants.{Mail, Push}
 use Rattle.chat_model.specs.declared.trigger.Trigger.{Trigger}
-use Rattle.notice_ledger.specs.Past.Journal.{Occurrence, occurrence, occurrences, occurrences_after}
-use Rattle.notice_ledger.specs.Past.Values.{numbered, SentMessage, Sending, sending_of, sent_by, message_of, messages, users, makes_deal, deal_count, is_to_topic, is_participant}
+use Rattle.notice_ledger.specs.Past.Journal.{Occurrence, occurrence}
+use Rattle.notice_ledger.specs.Past.Values.{numbered, SentMessage, Sending, sending_of, sent_by, message_of, messages, users, makes_deal, deal_count, deletes, is_deleted, is_to_topic, takes_part_by, some_from, is_participant}
 use Rattle.notice_ledger.specs.Past.Triggers.{trigger, came_by}
 use Rattle.notice_ledger.specs.Past.Owed.{Notice, notice_of, owed_of, owed_by, notices, account_of, is_pending, waiting}
 use Rattle.notice_ledger.proofs.Lists.{AllByRecursion-append, AllByRecursion-weaker, AllByRecursion-filter_map, AllByRecursion-flat_map, by_appending, AllByRecursion-filter}
-use Rattle.notice_ledger.proofs.Appended.{notices-nil, notices-append, messages-nil, messages-append, deal_count-nil, deal_count-append}
+use Rattle.notice_ledger.proofs.Appended.{notices-nil, notices-append, messages-nil, messages-append, is_deleted-append, deal_count-nil, deal_count-append}
 
 -- the notice's message stands at the notice's number
 abbrev pub IsOfMessage : List Stamped → Notice → Type 0
@@ -98,17 +99,53 @@ deal_count-messages = by_appending (λ j. deal_count j ≡ length (messages j)) 
 
 -- ---- who takes part in a topic
 
-any_given : (past : List Stamped) (o : Option Sending) (rest : List SentMessage) (u : UserId) (c : ChannelId) (topic : List ℕ) (more : Bool) → more ≡ list_any (λ (m : SentMessage). m.sender.0 == u.0 && is_to_topic c topic m.to) rest
-    → (option_map_or (λ (s : Sending). s.sender.0 == u.0 && is_to_topic c topic s.to) o false || more) ≡ list_any (λ (m : SentMessage). m.sender.0 == u.0 && is_to_topic c topic m.to) (cons_option (option_map (λ (s : Sending). let m : SentMessage = record { past = past; sender = s.sender; to = s.to; text = s.text } in m) o) rest)
-any_given past None rest u c topic more e = e
-any_given past (Some s) rest u c topic more e = ap (λ b. (s.sender.0 == u.0 && is_to_topic c topic s.to) || b) e
+pub some_from-append : (test : ℕ → SentMessage → Bool) (n : ℕ) (xs ys : List SentMessage) → some_from test n (xs ++ ys) ≡ (some_from test n xs || some_from test (n + length xs) ys)
+some_from-append test n [] ys = ap (λ k. some_from test k ys) (omega arith)
+some_from-append test n (m ∷ xs) ys =
+    let e : (n + 1) + length xs ≡ n + length (m ∷ xs) = omega arith in
+    ap (λ b. test n m || b) (some_from-append test (n + 1) xs ys ∙ ap (λ k. some_from test (n + 1) xs || some_from test k ys) e)
+    ∙ either (test n m) (some_from test (n + 1) xs) (some_from test (n + length (m ∷ xs)) ys)
+  where
+    either : (a b c : Bool) → (a || (b || c)) ≡ ((a || b) || c)
+    either true b c = refl
+    either false b c = refl
 
-some_sent_after : (past j : List Stamped) (u : UserId) (c : ChannelId) (topic : List ℕ) → list_any (λ s. option_map_or (λ m. m.sender.0 == u.0 && is_to_topic c topic m.to) (sending_of s.event) false) j ≡ list_any (λ m. m.sender.0 == u.0 && is_to_topic c topic m.to) (filter_map message_of (occurrences_after past j))
-some_sent_after past [] u c topic = refl
-some_sent_after past (s ∷ ss) u c topic =
-    any_given past (sending_of s.event) (filter_map message_of (occurrences_after (past ++ s ∷ []) ss)) u c topic (list_any (λ s. option_map_or (λ m. m.sender.0 == u.0 && is_to_topic c topic m.to) (sending_of s.event) false) ss) (some_sent_after (past ++ s ∷ []) ss u c topic)
+some_from-same : (test other : ℕ → SentMessage → Bool) → ((n : ℕ) (m : SentMessage) → test n m ≡ other n m) → (n : ℕ) (ms : List SentMessage) → some_from test n ms ≡ some_from other n ms
+some_from-same test other same n [] = refl
+some_from-same test other same n (m ∷ ms) = (λ i. same n m i || some_from-same test other same (n + 1) ms i)
 
--- a participant is one whose send to the topic stands in the journal
-pub some_sent-participant : (j : List Stamped) (u : UserId) (c : ChannelId) (topic : List ℕ) → list_any (λ s. option_map_or (λ m. m.sender.0 == u.0 && is_to_topic c topic m.to) (sending_of s.event) false) j ≡ is_participant j u c topic
-unfolding is_participant messages occurrences
-some_sent-participant j u c topic = some_sent_after [] j u c topic
+-- where the event deletes nothing, and the next message isn't deleted yet, the one who sends to the topic takes part in it too
+pub is_participant-append : (j : List Stamped) (s : Stamped) (u : UserId) (c : ChannelId) (topic : List ℕ) → ((m : MessageId) → deletes m s.event ≡ false)
+    → is_deleted j (record { 0 = length (messages j) + 1 }) ≡ false
+    → is_participant (j ++ s ∷ []) u c topic ≡ (is_participant j u c topic || option_map_or (λ m. m.sender.0 == u.0 && is_to_topic c topic m.to) (sending_of s.event) false)
+unfolding is_participant
+is_participant-append j s u c topic no_deletion new =
+    let here = takes_part_by j u c topic in
+    ap (some_from (takes_part_by (j ++ s ∷ []) u c topic) 1) (messages-append j s)
+    ∙ (some_from-same (takes_part_by (j ++ s ∷ []) u c topic) here (λ n m. ap (λ b. m.sender.0 == u.0 && is_to_topic c topic m.to && not b) (deleted_before (record { 0 = n }))) 1 (messages j ++ option_to_list (message_of (occurrence j s)))
+    ∙ (some_from-append here 1 (messages j) (option_to_list (message_of (occurrence j s)))
+    ∙ ap (λ b. some_from here 1 (messages j) || b) (one_more (sending_of s.event))))
+  where
+    deleted_before : (m : MessageId) → is_deleted (j ++ s ∷ []) m ≡ is_deleted j m
+    deleted_before m = is_deleted-append j s m ∙ (ap (λ b. is_deleted j m || b) (no_deletion m) ∙ or_no (is_deleted j m))
+      where
+        or_no : (b : Bool) → (b || false) ≡ b
+        or_no true = refl
+        or_no false = refl
+
+    undeleted : is_deleted j (record { 0 = 1 + length (messages j) }) ≡ false
+    undeleted = let e : 1 + length (messages j) ≡ length (messages j) + 1 = omega arith in ap (λ n. is_deleted j (record { 0 = n })) e ∙ new
+
+    whole : (a b d : Bool) → d ≡ false → (((a && b) && not d) || false) ≡ (a && b)
+    whole true true d e = ap (λ x. not x || false) e
+    whole true false d e = refl
+    whole false b d e = refl
+
+    one_more : (o : Option Sending) → some_from (takes_part_by j u c topic) (1 + length (messages j)) (option_to_list (option_map (λ (s : Sending). let m : SentMessage = record { past = j; sender = s.sender; to = s.to; text = s.text } in m) o))
+        ≡ option_map_or (λ (s : Sending). s.sender.0 == u.0 && is_to_topic c topic s.to) o false
+    one_more None = refl
+    one_more (Some sent) = whole (sent.sender.0 == u.0) (is_to_topic c topic sent.to) (is_deleted j (record { 0 = 1 + length (messages j) })) undeleted
+
+pub is_participant-nil : (u : UserId) (c : ChannelId) (topic : List ℕ) → is_participant [] u c topic ≡ false
+unfolding is_participant
+is_participant-nil u c topic = ap (some_from (takes_part_by [] u c topic) 1) messages-nil

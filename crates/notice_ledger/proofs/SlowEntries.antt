@@ -1,6 +1,6 @@
 -- What the slow computation finds of a turn's entries.
 use Rattle.std.proofs.Common.{◌≡◌, ℕ, true, false, ◌&&◌, List, [], ◌∷◌, ◌++◌, length, map, refl, sym, ap, ◌∙◌}
-use Rattle.std.specs.Prelude.{Option, Some, None, option_map, is_none, find, if◌then◌else◌}
+use Rattle.std.specs.Prelude.{Option, Some, None, option_map, is_none, filter, find, if◌then◌else◌}
 use Rattle.std.specs.Option.{option_map_or}
 use Rattle.std.specs.List.{AllByRecursion, filter_map, cons_option}
 use Rattle.std.proofs.lemmas.List.{append-nil}
@@ -15,18 +15,18 @@ use Rattle.mail_batches.specs.declared.grouping.ReadyItem.{ReadyItem}
 use Rattle.mail_batches.specs.Entries.{no_message_twice, entries_of}
 use Rattle.mail_batches.proofs.EntryCounts.{entries-counted, no_message_twice-map}
 use Rattle.notice_ledger.specs.declared.owed.Owed.{Owed}
-use Rattle.notice_ledger.specs.Past.Journal.{Occurrence, occurrences, occurrences_after}
+use Rattle.notice_ledger.specs.Past.Journal.{occurrences, occurrences_after}
 use Rattle.notice_ledger.specs.Past.Values.{numbered, user_name, SentMessage, Sending, sending_of, message_of, messages}
-use Rattle.notice_ledger.specs.Past.Owed.{Notice, notices, notice_to, switch_on}
+use Rattle.notice_ledger.specs.Past.Owed.{Notice, notices, notice_to, bar, switch_on}
 use Rattle.notice_ledger.specs.Past.Due.{is_batch_row, batch_rows}
 use Rattle.notice_ledger.specs.Past.Outbox.{conversation_of, ready_item, mailed, mail_entries, is_pushed}
-use Rattle.notice_ledger.specs.Plain.{owed_kept, bare_item, conversation_kept, ready_item_kept, is_of_kept}
-use Rattle.notice_ledger.proofs.Batches.{mailed-batch_rows, batch_rows-once}
+use Rattle.notice_ledger.specs.Plain.{owed_kept, bar_kept, bare_item, conversation_kept, ready_item_kept, is_of_kept}
+use Rattle.notice_ledger.proofs.Batches.{mailed-once}
 use Rattle.notice_ledger.proofs.Lists.{AllByRecursion-filter}
 use Rattle.notice_ledger.proofs.OwedLemmas.{numbered-map}
 use Rattle.notice_ledger.proofs.Sent.{IsOfMessage, notices-messages}
 use Rattle.notice_ledger.proofs.SlowLemmas.{find-map}
-use Rattle.notice_ledger.proofs.Standing.{bar-none}
+use Rattle.notice_ledger.proofs.TurnLemmas.{filter-map}
 
 filter_map-push : {X Y : Type 0} (h : X → Option Y) (xs : List X) (x : X) (y : Y) → Some y ≡ h x → filter_map h xs ++ y ∷ [] ≡ filter_map h (xs ++ x ∷ [])
 filter_map-push h xs x y e = ap (λ o. filter_map h xs ++ cons_option o []) e ∙ sym (filter_map-append h xs (x ∷ []))
@@ -95,28 +95,32 @@ items-bare j (n ∷ ns) all =
     ap (λ (o : Option SentMessage). cons_option (option_map (λ (c : Conversation). let k : ReadyItem = record { conversation = c; item = bare_item n.number } in k) (option_map (λ (m : SentMessage). conversation_of j m.sender m.to) o)) (filter_map (ready_item_kept j) (map owed_kept ns))) all.0
     ∙ ap (λ ks. bare (ready_item j n) ∷ ks) (items-bare j ns all.1)
 
--- the slow items of a user's batch rows
-slow_items : (j : List Stamped) (u : UserId) (rows : List Owed) (items : List ReadyItem) → rows ≡ map owed_kept (batch_rows j u) → items ≡ filter_map (ready_item_kept j) rows → items ≡ map bare (map (ready_item j) (batch_rows j u))
+-- the batch rows that no event bars are those that a mail turn hands over
+pub mailed_kept : (j : List Stamped) (u : UserId) (rows mailed_rows : List Owed) → rows ≡ map owed_kept (batch_rows j u) → mailed_rows ≡ filter (λ n. is_none (bar_kept j n)) rows → mailed_rows ≡ map owed_kept (mailed j u)
+mailed_kept j u rows mailed_rows are kept = kept ∙ (ap (filter (λ n. is_none (bar_kept j n))) are ∙ filter-map (λ n. is_none (bar_kept j n)) owed_kept (batch_rows j u))
+
+-- the slow items of what a mail turn hands over
+slow_items : (j : List Stamped) (u : UserId) (rows : List Owed) (items : List ReadyItem) → rows ≡ map owed_kept (mailed j u) → items ≡ filter_map (ready_item_kept j) rows → items ≡ map bare (map (ready_item j) (mailed j u))
 slow_items j u rows items are made =
     made
     ∙ (ap (filter_map (ready_item_kept j)) are
-    ∙ items-bare j (batch_rows j u) (AllByRecursion-filter (IsOfMessage j) (is_batch_row j u) (notices j) (notices-messages j)))
+    ∙ items-bare j (mailed j u) (AllByRecursion-filter (IsOfMessage j) (λ n. is_none (bar j n)) (batch_rows j u)
+    (AllByRecursion-filter (IsOfMessage j) (is_batch_row j u) (notices j) (notices-messages j))))
 
-pub slow_items-once : (j : List Stamped) (u : UserId) (rows : List Owed) (items : List ReadyItem) → rows ≡ map owed_kept (batch_rows j u) → items ≡ filter_map (ready_item_kept j) rows → no_message_twice items ≡ true
+pub slow_items-once : (j : List Stamped) (u : UserId) (rows : List Owed) (items : List ReadyItem) → rows ≡ map owed_kept (mailed j u) → items ≡ filter_map (ready_item_kept j) rows → no_message_twice items ≡ true
 unfolding bare
 slow_items-once j u rows items are made =
     ap no_message_twice (slow_items j u rows items are made)
-    ∙ (no_message_twice-map bare (λ k. refl) (λ k. refl) (map (ready_item j) (batch_rows j u)) ∙ batch_rows-once j u)
+    ∙ (no_message_twice-map bare (λ k. refl) (λ k. refl) (map (ready_item j) (mailed j u)) ∙ mailed-once j u)
 
 -- they make as many entries as the mail turn
-pub turn_entries-on : (j : List Stamped) (at : ℕ) (u : UserId) (name : List ℕ) (rows : List Owed) (items : List ReadyItem) → switch_on j u Mail ≡ true → rows ≡ map owed_kept (batch_rows j u) → items ≡ filter_map (ready_item_kept j) rows
+pub turn_entries-on : (j : List Stamped) (at : ℕ) (u : UserId) (name : List ℕ) (rows : List Owed) (items : List ReadyItem) → switch_on j u Mail ≡ true → rows ≡ map owed_kept (mailed j u) → items ≡ filter_map (ready_item_kept j) rows
     → length (entries_of u name at items) ≡ length (mail_entries j at u)
 unfolding bare
 turn_entries-on j at u name rows items on are made =
     ap (λ is. length (entries_of u name at is)) (slow_items j u rows items are made)
-    ∙ (entries-counted bare (λ k. refl) (λ k. refl) u u (user_name j u) name at at (map (ready_item j) (batch_rows j u))
-    ∙ (ap (λ ns. length (entries_of u (user_name j u) at (map (ready_item j) ns))) (sym (mailed-batch_rows j u))
-    ∙ ap (λ b. length (if b then entries_of u (user_name j u) at (map (ready_item j) (mailed j u)) else [])) (sym on)))
+    ∙ (entries-counted bare (λ k. refl) (λ k. refl) u u (user_name j u) name at at (map (ready_item j) (mailed j u))
+    ∙ ap (λ b. length (if b then entries_of u (user_name j u) at (map (ready_item j) (mailed j u)) else [])) (sym on))
 
 pub turn_entries-off : (j : List Stamped) (at : ℕ) (u : UserId) → switch_on j u Mail ≡ false → 0 ≡ length (mail_entries j at u)
 turn_entries-off j at u off = ap (λ b. length (if b then entries_of u (user_name j u) at (map (ready_item j) (mailed j u)) else [])) (sym off)
@@ -125,11 +129,11 @@ turn_entries-off j at u off = ap (λ b. length (if b then entries_of u (user_nam
 
 -- a push that is found is handed over where the switch is on
 pub pushed-found : (j : List Stamped) (u : UserId) (m : MessageId) (found : List Owed) (o : Option Owed) → found ≡ map owed_kept (notices j) → o ≡ find (is_of_kept u m Push) found
-    → option_map_or (λ n. switch_on j n.user Push) o false ≡ option_map_or (is_pushed j) (notice_to j u m Push) false
+    → option_map_or (λ n. is_none (bar_kept j n) && switch_on j n.user Push) o false ≡ option_map_or (is_pushed j) (notice_to j u m Push) false
 pushed-found j u m found o are at =
-    ap (λ p. option_map_or (λ n. switch_on j n.user Push) p false) (at ∙ (ap (find (is_of_kept u m Push)) are ∙ find-map (is_of_kept u m Push) owed_kept (notices j)))
+    ap (λ p. option_map_or (λ n. is_none (bar_kept j n) && switch_on j n.user Push) p false) (at ∙ (ap (find (is_of_kept u m Push)) are ∙ find-map (is_of_kept u m Push) owed_kept (notices j)))
     ∙ by (notice_to j u m Push)
   where
-    by : (p : Option Notice) → option_map_or (λ n. switch_on j n.user Push) (option_map owed_kept p) false ≡ option_map_or (is_pushed j) p false
+    by : (p : Option Notice) → option_map_or (λ n. is_none (bar_kept j n) && switch_on j n.user Push) (option_map owed_kept p) false ≡ option_map_or (is_pushed j) p false
     by None = refl
-    by (Some n) = ap (λ (b : Option Occurrence). is_none b && switch_on j n.user Push) (sym (bar-none j n))
+    by (Some n) = refl

@@ -17,13 +17,12 @@ use Rattle.notice_ledger.specs.Past.Values.{settings, user_names}
 use Rattle.notice_ledger.proofs.OwedLemmas.{ids-user_names}
 use Rattle.notice_ledger.specs.Past.Owed.{Notice, notices, ready, is_unbarred, is_turn_of, turn}
 use Rattle.notice_ledger.specs.Past.Due.{DueUser, is_batch_row, batch_rows, due, due_user, earlier, first_due, sooner}
-use Rattle.notice_ledger.specs.Plain.{owed_kept, ready_kept, turn_kept, decided_kept, is_batch_kept, found_due, spot_of, earlier_spot}
+use Rattle.notice_ledger.specs.Plain.{owed_kept, ready_kept, turn_kept, turn_found, is_unbarred_kept, is_batch_kept, found_due, spot_of, earlier_spot}
 use Rattle.notice_ledger.proofs.Batches.{is_mail_of, filter_same}
-use Rattle.notice_ledger.proofs.Standing.{bar-none}
 
 -- ---- batch rows
 
-filter-map : {A B : Type 0} (p : B → Bool) (f : A → B) (xs : List A) → filter p (map f xs) ≡ map f (filter (λ x. p (f x)) xs)
+pub filter-map : {A B : Type 0} (p : B → Bool) (f : A → B) (xs : List A) → filter p (map f xs) ≡ map f (filter (λ x. p (f x)) xs)
 filter-map p f [] = refl
 filter-map p f (x ∷ xs) =
     elim (p (f x)) as (λ b. cond b (f x ∷ filter p (map f xs)) (filter p (map f xs)) ≡ map f (cond b (x ∷ filter (λ x. p (f x)) xs) (filter (λ x. p (f x)) xs))) [
@@ -36,19 +35,23 @@ batch_rows-kept j u =
     filter-map (is_batch_kept j u) owed_kept (notices j)
     ∙ ap (map owed_kept) (filter_same (λ n. is_batch_kept j u (owed_kept n)) (is_batch_row j u) (λ n. ap (λ b. is_mail_of u n && (b && is_none (turn j n))) (sym (unbarred n (ready j n)))) (notices j))
   where
-    unbarred : (n : Notice) (r : Option Occurrence) → option_map_or (is_unbarred n) r false ≡ is_some r
+    by : (o : Occurrence) (b : Bool) → b ≡ is_some (if b then Some o else None)
+    by o true = refl
+    by o false = refl
+
+    unbarred : (n : Notice) (r : Option Occurrence) → option_map_or (is_unbarred n) r false ≡ is_some (option_and_then (λ r. if is_unbarred_kept (owed_kept n) r then Some r else None) r)
     unbarred n None = refl
-    unbarred n (Some o) = ap (λ (b : Option Occurrence). is_none b) (bar-none o.past n)
+    unbarred n (Some o) = by o (is_unbarred n o)
 
 -- ---- turns
 
--- what the turn decided is what the first one behind the ready event decided
-pub decision-ready : (j : List Stamped) (n : Owed) (spot : Spot) → Some spot ≡ option_map spot_of (ready_kept j n) → option_map (decided_kept n) (first_behind spot.place (λ o. is_turn_of n.user n.message n.way o.event) j) ≡ option_map (decided_kept n) (turn_kept j n)
-decision-ready j n spot found = by (ready_kept j n) found
+-- the turn is the first one behind the ready event
+pub turn-ready : (j : List Stamped) (n : Owed) (spot : Spot) → Some spot ≡ option_map spot_of (ready_kept j n) → option_map (turn_found n) (first_behind spot.place (λ o. is_turn_of n.user n.message n.way o.event) j) ≡ option_map (turn_found n) (turn_kept j n)
+turn-ready j n spot found = by (ready_kept j n) found
   where
-    by : (r : Option Occurrence) → Some spot ≡ option_map spot_of r → option_map (decided_kept n) (first_behind spot.place (λ o. is_turn_of n.user n.message n.way o.event) j) ≡ option_map (decided_kept n) (option_and_then (λ r. first_behind r.place (λ o. is_turn_of n.user n.message n.way o.event) j) r)
+    by : (r : Option Occurrence) → Some spot ≡ option_map spot_of r → option_map (turn_found n) (first_behind spot.place (λ o. is_turn_of n.user n.message n.way o.event) j) ≡ option_map (turn_found n) (option_and_then (λ r. first_behind r.place (λ o. is_turn_of n.user n.message n.way o.event) j) r)
     by None e = absurd (cc)
-    by (Some o) e = let same : spot ≡ spot_of o = cc in ap (λ (t : Spot). option_map (decided_kept n) (first_behind t.place (λ o. is_turn_of n.user n.message n.way o.event) j)) same
+    by (Some o) e = let same : spot ≡ spot_of o = cc in ap (λ (t : Spot). option_map (turn_found n) (first_behind t.place (λ o. is_turn_of n.user n.message n.way o.event) j)) same
 
 -- ---- the first ready event
 

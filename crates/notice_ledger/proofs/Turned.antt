@@ -1,5 +1,5 @@
 -- Whose turn an event is.
-use Rattle.std.proofs.Common.{◌≡◌, false, ◌&&◌, ◌==◌, List, refl, ap, ◌∙◌}
+use Rattle.std.proofs.Common.{◌≡◌, Bool, true, false, ◌&&◌, ◌==◌, List, refl, ap, ◌∙◌}
 use Rattle.std.specs.Prelude.{Option, Some, None}
 use Rattle.std.specs.Option.{option_map_or}
 use Rattle.std.proofs.Math.Bool.{and-false}
@@ -11,9 +11,9 @@ use Rattle.chat_model.specs.declared.ids.MessageId.{MessageId}
 use Rattle.chat_model.specs.declared.push_item.PushItem.TheVariants.{Notify}
 use Rattle.chat_model.specs.declared.trigger.Way.{Way}
 use Rattle.chat_model.specs.declared.trigger.Way.TheVariants.{Mail, Push}
-use Rattle.notice_ledger.specs.declared.accounts.Account.TheVariants.{Ready}
-use Rattle.notice_ledger.specs.Past.Owed.{same_way, is_turn_of, is_mail_turn_of, account}
+use Rattle.notice_ledger.specs.Past.Owed.{same_way, is_turn_of, is_mail_turn_of, notice_to}
 use Rattle.notice_ledger.specs.Past.Pushes.{is_push_turn}
+use Rattle.notice_ledger.proofs.Queued.{is_queued}
 
 -- the user whose mail turn an event is
 abbrev pub turned_user : Event → Option UserId
@@ -35,7 +35,11 @@ pub no_turn : (u : UserId) (m : MessageId) (w : Way) (e : Event) → is_push_tur
 no_turn u m w e no_push none =
     turn-user u m w e no_push ∙ (ap (λ (o : Option UserId). same_way w Mail && option_map_or (λ v. v.0 == u.0) o false) none ∙ and-false (same_way w Mail))
 
--- where the event is the push turn of a notice, the notice is ready
+-- the push notice of a user and a message is queued
+abbrev pub is_push_queued : List Stamped → UserId → MessageId → Bool
+is_push_queued j u m = option_map_or (is_queued j) (notice_to j u m Push) false
+
+-- where the event is the push turn of a notice, the notice is queued
 abbrev pub IsTurnReady : List Stamped → Event → Type 0
-IsTurnReady j (PushTurn (Notify u m)) = account j u m Push ≡ Ready
+IsTurnReady j (PushTurn (Notify u m)) = is_push_queued j u m ≡ true
 IsTurnReady j _ = Unit {0}

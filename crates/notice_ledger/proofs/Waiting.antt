@@ -17,7 +17,7 @@ use Rattle.notice_ledger.specs.Past.Triggers.{trigger, came_by}
 use Rattle.notice_ledger.specs.Past.Owed.{Notice, notice_of, owed_of, owed_by, notices, decided, account_of, is_pending, waiting}
 use Rattle.notice_ledger.proofs.Lists.{AllByRecursion-append, AllByRecursion-weaker, AllByRecursion-filter, AllByRecursion-filter_map, AllByRecursion-flat_map, filter-passed, by_appending, filter_same_where, filter_all_where, filter-filter}
 use Rattle.notice_ledger.proofs.Appended.{notices-nil, notices-append}
-use Rattle.notice_ledger.proofs.Standing.{is_turn, is_readying, is_clearing, is_dealing, moved, moved-pending, account_of-append, account_of-last}
+use Rattle.notice_ledger.proofs.Standing.{is_turn, is_readying, is_clearing, is_dealing, barring, moved, moved-pending, account_of-append, account_of-last}
 
 -- what an event owes is of its own message and place
 pub record IsOwedBy (o : Occurrence) (n : Notice) : Type 0 where
@@ -75,7 +75,7 @@ waiting-append j s =
     ∙ (ap (λ ns. filter later (notices j) ++ ns) (filter_all_where (IsOwedBy (occurrence j s)) later (λ n owed. ap is_pending (account_of-new j s n owed)) (owed_by (occurrence j s)) (owed_by-each (occurrence j s)))
     ∙ ap (λ ns. ns ++ owed_by (occurrence j s)) (
     filter_same_where (λ n. n.owing.place < length j) later (λ n. is_pending (account_of j n) && stays j s n)
-    (λ n placed. ap is_pending (account_of-append j s n placed) ∙ moved-pending (is_turn s n) (is_readying s n) (is_clearing s n) (is_dealing s n) (decided n (occurrence j s)) (account_of j n)) (notices j) (notices-placed j)
+    (λ n placed. ap is_pending (account_of-append j s n placed) ∙ moved-pending (is_turn s n) (is_readying s n) (is_clearing s n) (is_dealing s n) (barring j s n) (decided n (occurrence j s)) (account_of j n)) (notices j) (notices-placed j)
     ∙ sym (filter-filter (stays j s) (λ n. is_pending (account_of j n)) (notices j)))))
 
 pub waiting-nil : waiting [] ≡ []

@@ -1,5 +1,5 @@
 -- What the slow computation keeps of a notice and of a message, and what it computes of them.
-use Rattle.std.specs.Prelude.{ℕ, Bool, false, ◌&&◌, ◌||◌, ◌==◌, not, nat_le, nat_lt, List, [], ◌∷◌, Option, Some, None, option_and_then, option_map, unwrap_or, is_none, is_some, length, filter, count_by, if◌then◌else◌}
+use Rattle.std.specs.Prelude.{ℕ, Bool, false, ◌&&◌, ◌||◌, ◌==◌, not, nat_le, nat_lt, List, [], ◌∷◌, Option, Some, None, option_and_then, option_map, unwrap_or, is_none, is_some, length, map, filter, count_by, if◌then◌else◌}
 use Rattle.std.specs.Option.{option_map_or}
 use Rattle.std.specs.List.{list_any, filter_map, flat_map}
 use Rattle.chat_model.specs.declared.event.Stamped.{Stamped}
@@ -13,16 +13,23 @@ use Rattle.chat_model.specs.declared.ids.MessageId.{MessageId}
 use Rattle.chat_model.specs.declared.mentions.UserName.{UserName}
 use Rattle.chat_model.specs.declared.push_item.PushItem.{PushItem}
 use Rattle.chat_model.specs.declared.push_item.PushItem.TheVariants.{Notify}
+use Rattle.chat_model.specs.declared.row.Cause.{Cause}
 use Rattle.chat_model.specs.declared.row.Cause.TheVariants.{Read, Deleted, SwitchedOff}
 use Rattle.chat_model.specs.declared.trigger.Trigger.TheVariants.{Mention}
 use Rattle.chat_model.specs.declared.trigger.Way.{Way}
 use Rattle.chat_model.specs.declared.trigger.Way.TheVariants.{Mail, Push}
 use Rattle.mail_batches.specs.declared.grouping.ReadyItem.{ReadyItem}
+use Rattle.revocation.specs.Removals.{removals_of}
 use Rattle.notice_ledger.specs.declared.accounts.Account.{Account}
 use Rattle.notice_ledger.specs.declared.accounts.Account.TheVariants.{Flight, Held, Ready, Handed, Cancelled, LiveQueue}
+use Rattle.notice_ledger.specs.declared.bars.FoundBar.{FoundBar}
 use Rattle.notice_ledger.specs.declared.owed.Owed.{Owed}
 use Rattle.notice_ledger.specs.declared.pushes.ReadyPush.{ReadyPush}
 use Rattle.notice_ledger.specs.declared.readiness.Spot.{Spot}
+use Rattle.notice_ledger.specs.declared.revocations.RevokedPush.{RevokedPush}
+use Rattle.notice_ledger.specs.declared.slow.RemovalCounts.{RemovalCounts}
+use Rattle.notice_ledger.specs.declared.turns.FoundTurn.{FoundTurn}
+use Rattle.chat_model.specs.Ascending.{ascending_once_by}
 use Rattle.chat_model.specs.Outcomes.{is_dealt}
 use Rattle.chat_model.specs.Triggers.{trigger_of}
 use Rattle.notice_ledger.specs.declared.facts.Heard.{Heard}
@@ -30,7 +37,8 @@ use Rattle.notice_ledger.specs.declared.due.DueUser.{DueUser as FoundDue}
 use Rattle.notice_ledger.specs.Past.Journal.{Occurrence, first_behind, some_behind, absorbs}
 use Rattle.notice_ledger.specs.Past.Values.{numbered, messages, is_one_of, is_member, settings, has_muted}
 use Rattle.notice_ledger.specs.Past.Triggers.{goes_to, is_direct, is_participant_of, policy_for, specific_for}
-use Rattle.notice_ledger.specs.Past.Owed.{Notice, same_way, pushes_online, clears, ready_behind, bar_cause, bar_behind, is_turn_of, switch_on, account_by}
+use Rattle.notice_ledger.specs.Past.Owed.{Notice, same_way, pushes_online, clears, ready_behind, bar_cause, bar_behind, is_turn_of, switch_on, account_by, is_handed}
+use Rattle.notice_ledger.specs.Past.Pushes.{removes}
 use Rattle.notice_ledger.specs.Past.Due.{DueUser}
 use Rattle.notice_ledger.specs.Past.Outbox.{conversation_of}
 use Rattle.notice_ledger.specs.Past.Audit.{in_64_bits, same_account}
@@ -98,6 +106,22 @@ dealt_kept j n = some_behind n.place (λ o. absorbs (is_dealt n.deal) o.event) j
 abbrev pub bar_kept : List Stamped → Owed → Option Occurrence
 bar_kept j n = bar_behind n.place n.user n.message n.way j
 
+-- a bar of the notice with its cause
+abbrev pub bar_found : Owed → Occurrence → Option FoundBar
+bar_found n o = option_map (λ c. record { place = o.place; cause = c }) (bar_cause n.user n.message n.way o)
+
+-- the cause of the notice's bar
+abbrev pub cause_kept : List Stamped → Owed → Option Cause
+cause_kept j n = option_and_then (bar_cause n.user n.message n.way) (bar_kept j n)
+
+-- no bar of the notice stands before an event
+abbrev pub is_unbarred_kept : Owed → Occurrence → Bool
+is_unbarred_kept n o = is_none (bar_kept o.past n)
+
+-- the notice's ready event, where no bar stands before it
+abbrev pub unbarred_ready_kept : List Stamped → Owed → Option Occurrence
+unbarred_ready_kept j n = option_and_then (λ r. if is_unbarred_kept n r then Some r else None) (ready_kept j n)
+
 -- the first event behind the ready one that is a turn of the notice
 abbrev pub turn_kept : List Stamped → Owed → Option Occurrence
 turn_kept j n = option_and_then (λ r. first_behind r.place (λ o. is_turn_of n.user n.message n.way o.event) j) (ready_kept j n)
@@ -106,20 +130,28 @@ turn_kept j n = option_and_then (λ r. first_behind r.place (λ o. is_turn_of n.
 abbrev pub decided_kept : Owed → Occurrence → Account
 decided_kept n t = if switch_on t.past n.user n.way then Handed else Cancelled SwitchedOff
 
+-- what a turn behind these events decides, where none of them bars the notice
+abbrev pub decided_unbarred_kept : List Stamped → Owed → Option Account
+decided_unbarred_kept past n =
+    if is_none (bar_kept past n) then Some (if switch_on past n.user n.way then Handed else Cancelled SwitchedOff) else None
+
+-- a turn of the notice with what it decided
+abbrev pub turn_found : Owed → Occurrence → FoundTurn
+turn_found n t = record { place = t.place; decided = decided_unbarred_kept t.past n }
+
+-- what the notice's turn decided, where no bar stands before it
+abbrev pub at_turn_kept : List Stamped → Owed → Option Account
+at_turn_kept j n = option_and_then (λ t. if is_none (bar_kept t.past n) then Some (decided_kept n t) else None) (turn_kept j n)
+
 -- where the notice stands
 abbrev pub account_kept : List Stamped → Owed → Account
 account_kept j n =
-    account_by
-    (option_and_then (λ t. if is_none (bar_kept t.past n) then Some (decided_kept n t) else None) (turn_kept j n))
-    (option_and_then (bar_cause n.user n.message n.way) (bar_kept j n))
-    (is_some (ready_kept j n))
-    (cleared_kept j n)
-    (dealt_kept j n)
+    account_by (at_turn_kept j n) (cause_kept j n) (is_some (ready_kept j n)) (cleared_kept j n) (dealt_kept j n)
 
--- the notice is a batch row of the user; no event bars it
+-- the notice is a batch row of the user
 abbrev pub is_batch_kept : List Stamped → UserId → Owed → Bool
 is_batch_kept j u n =
-    n.user.0 == u.0 && same_way n.way Mail && (is_some (ready_kept j n) && is_none (turn_kept j n))
+    n.user.0 == u.0 && same_way n.way Mail && (is_some (unbarred_ready_kept j n) && is_none (turn_kept j n))
 
 -- a message's item that shows nothing of it but its number
 abbrev pub bare_item : MessageId → Item
@@ -141,10 +173,10 @@ found_due d = record { due = d.due; user = d.user }
 abbrev pub is_next_turn : Option DueUser → UserId → ℕ → Bool
 is_next_turn first u at = option_map_or (λ d. d.user.0 == u.0 && nat_le d.due at) first false
 
--- a push notice with the place of its ready event, where it has one; no event bars it
+-- a push notice with the place of its ready event, where it has one and no bar stands before it
 abbrev pub ready_push_kept : List Stamped → Owed → Option ReadyPush
 ready_push_kept j n =
-    if same_way n.way Push then option_map (λ o. record { user = n.user; message = n.message; place = o.place }) (ready_kept j n) else None
+    if same_way n.way Push then option_map (λ o. record { user = n.user; message = n.message; place = o.place }) (unbarred_ready_kept j n) else None
 
 -- a push stands before another: by user, then message
 abbrev pub stands_before_kept : ReadyPush → ReadyPush → Bool
@@ -168,13 +200,48 @@ items_kept pushes place = by_user_kept (filter (λ p. p.place == place) pushes)
 abbrev pub notify_kept : ReadyPush → PushItem
 notify_kept p = Notify p.user p.message
 
+-- ---- revocations
+
+-- the notice's turn, where it handed the notice over
+abbrev pub handed_kept : List Stamped → Owed → Option Occurrence
+handed_kept j n = option_and_then (λ t. if is_unbarred_kept n t && is_handed (decided_kept n t) then Some t else None) (turn_kept j n)
+
+-- the event that revokes the notice
+abbrev pub revocation_kept : List Stamped → Owed → Option Occurrence
+revocation_kept j n = option_and_then (λ t. bar_behind t.place n.user n.message n.way j) (handed_kept j n)
+
+-- a push notice with the place of the event that revokes it, where one does
+abbrev pub revoked_push_kept : List Stamped → Owed → Option RevokedPush
+revoked_push_kept j n =
+    if same_way n.way Push then option_map (λ o. record { user = n.user; message = n.message; place = o.place }) (revocation_kept j n) else None
+
+-- the messages of the pushes to a user that the event at a place revokes, ascending
+abbrev pub revoked_messages_kept : List RevokedPush → ℕ → UserId → List MessageId
+revoked_messages_kept revoked place u =
+    ascending_once_by (λ m. m.0) (map (λ p. p.message) (filter (λ p. p.user.0 == u.0 && p.place == place) revoked))
+
+-- the removals to a user that the event at a place makes
+abbrev pub removals_to_kept : List RevokedPush → ℕ → UserId → List PushItem
+removals_to_kept revoked place u = removals_of u (revoked_messages_kept revoked place u)
+
+-- one of the items that wait removes the push
+abbrev pub is_removed_kept : List PushItem → RevokedPush → Bool
+is_removed_kept waiting p = list_any (removes p.user p.message) waiting
+
+-- how many of the revoked pushes have a removal among the items that wait, and how many have none there
+abbrev pub removals_counted : List PushItem → List RevokedPush → RemovalCounts
+removals_counted waiting revoked = record {
+  waiting = in_64_bits (count_by (is_removed_kept waiting) revoked);
+  written = in_64_bits (count_by (λ p. not (is_removed_kept waiting p)) revoked);
+}
+
 -- the notice is to this user, of this message, by this way
 abbrev pub is_of_kept : UserId → MessageId → Way → Owed → Bool
 is_of_kept u m w n = n.user.0 == u.0 && n.message.0 == m.0 && same_way n.way w
 
--- the counts of these accounts, with so many entries
-abbrev pub counts_kept : List Account → ℕ → Counts
-counts_kept accounts entries = record {
+-- the counts of these accounts, with so many entries, and with these removals
+abbrev pub counts_kept : List Account → ℕ → RemovalCounts → Counts
+counts_kept accounts entries removals = record {
   flight = in_64_bits (count_by (λ a. same_account a Flight) accounts);
   held = in_64_bits (count_by (λ a. same_account a Held) accounts);
   ready = in_64_bits (count_by (λ a. same_account a Ready) accounts);
@@ -184,6 +251,6 @@ counts_kept accounts entries = record {
   off = in_64_bits (count_by (λ a. same_account a (Cancelled SwitchedOff)) accounts);
   live = in_64_bits (count_by (λ a. same_account a LiveQueue) accounts);
   entries = entries;
-  waiting = 0;
-  written = 0;
+  waiting = removals.waiting;
+  written = removals.written;
 }

@@ -3,12 +3,12 @@ ghost use Rattle.std.specs.Prelude.{◌≡◌, ◌+◌, ◌&&◌, map, filter, i
 ghost use Rattle.std.specs.Option.{option_map_or};
 ghost use Rattle.std.specs.List.{filter_map, reduce};
 ghost use Rattle.notice_ledger.specs.Past.Due.{batch_rows, due, earlier, first_due, sooner};
-ghost use Rattle.notice_ledger.specs.Plain.{earlier_spot, found_due, is_batch_kept, owed_kept, ready_kept, spot_of, turn_kept};
+ghost use Rattle.notice_ledger.specs.Plain.{earlier_spot, found_due, is_batch_kept, owed_kept, ready_kept, spot_of, turn_kept, unbarred_ready_kept};
 
 use crate::owed::{Owed, notices};
-use crate::readiness::{Spot, ready};
+use crate::readiness::{Spot, ready, unbarred_ready};
 use crate::settings::settings;
-use crate::turns::decision;
+use crate::turns::turn;
 use crate::values::user_names;
 use chat_model::{OutOfMemory, Stamped, UserId, Way};
 use std::alloc::Global;
@@ -21,14 +21,14 @@ pub struct DueUser {
     pub user: UserId,
 }
 
-/// Whether the notice is ready and had no turn.
+/// Whether the notice became ready with no bar before, and had no turn.
 fn is_unturned(journal: &[Stamped], notice: &Owed) -> bool
-    ensures { result ≡ (is_some (ready_kept journal.now notice.now) && is_none (turn_kept journal.now notice.now)) }
+    ensures { result ≡ (is_some (unbarred_ready_kept journal.now notice.now) && is_none (turn_kept journal.now notice.now)) }
 {
-    ready(journal, notice).is_some() && decision(journal, notice).is_none()
+    unbarred_ready(journal, notice).is_some() && turn(journal, notice).is_none()
 }
 
-/// Whether the notice is a batch row of the user: a mail notice that is ready and had no turn. No event bars it yet.
+/// Whether the notice is a batch row of the user: a mail notice that became ready with no bar before, and had no turn.
 fn is_batch_row(journal: &[Stamped], user: UserId, notice: &Owed) -> bool
     ensures { result ≡ is_batch_kept journal.now user notice.now }
 {

@@ -6,6 +6,7 @@
 #![tactic(auto)]
 
 mod accounts;
+mod bars;
 mod destination;
 mod due;
 mod facts;
@@ -18,8 +19,11 @@ mod owed;
 #[cfg(test)]
 mod push_tests;
 mod pushes;
+#[cfg(test)]
+mod read_tests;
 mod readiness;
 mod refused;
+mod revocations;
 mod rules;
 mod settings;
 mod slow;

@@ -1,8 +1,9 @@
 //! The order of a request's lists.
 ghost use Rattle.std.specs.Prelude.{◌≡◌};
+ghost use Rattle.chat_model.specs.Ascending.{is_ascending_by};
 ghost use Rattle.notice_ledger.specs.InOrder.{in_order, is_ascending, is_in_order};
 
-use chat_model::{Request, UserId, ascending_users};
+use chat_model::{MessageId, Request, UserId, ascending_messages, ascending_users};
 
 /// The request with its lists ascending, once each, as its event keeps them. It takes no memory.
 pub fn in_order(request: Request) -> Request
@@ -17,6 +18,10 @@ pub fn in_order(request: Request) -> Request
             sender,
             to: ascending_users(to),
             text,
+        },
+        Request::Read { user, messages } => Request::Read {
+            user,
+            messages: ascending_messages(messages),
         },
         other => other,
     }
@@ -34,6 +39,18 @@ fn is_ascending(users: &[UserId]) -> bool
     true
 }
 
+/// Whether the messages ascend, and so stand once each.
+fn do_messages_ascend(messages: &[MessageId]) -> bool
+    ensures { result ≡ is_ascending_by (λ m. m.0) messages.now }
+{
+    for i in 1..messages.len() {
+        if messages[i].0 <= messages[i - 1].0 {
+            return false;
+        }
+    }
+    true
+}
+
 /// Whether the lists of the request ascend, each item once. It takes no memory.
 pub fn is_in_order(request: &Request) -> bool
     ensures { result ≡ is_in_order request.now }
@@ -41,6 +58,7 @@ pub fn is_in_order(request: &Request) -> bool
     match request {
         Request::AddGroup { members, .. } => is_ascending(members.as_slice()),
         Request::Direct { to, .. } => is_ascending(to.as_slice()),
+        Request::Read { messages, .. } => do_messages_ascend(messages.as_slice()),
         _ => true,
     }
 }

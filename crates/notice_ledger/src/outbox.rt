@@ -1,13 +1,14 @@
 //! How many entries the turns add, by looking through the whole list of events.
-ghost use Rattle.std.specs.Prelude.{◌≡◌, ℕ, false, length, map, option_map, IfOk};
+ghost use Rattle.std.specs.Prelude.{◌≡◌, ◌&&◌, ℕ, false, filter, is_none, length, map, option_map, IfOk};
 ghost use Rattle.std.specs.Option.{option_map_or};
 ghost use Rattle.std.specs.List.{filter_map};
 ghost use Rattle.notice_ledger.specs.Past.Audit.{in_64_bits};
 ghost use Rattle.notice_ledger.specs.Past.Outbox.{conversation_of, entries_by, is_pushed, mail_entries, outbox, push_entries};
-ghost use Rattle.notice_ledger.specs.Past.Owed.{notice_to};
+ghost use Rattle.notice_ledger.specs.Past.Owed.{notice_to, switch_on};
 ghost use Rattle.notice_ledger.specs.Past.Values.{messages, sending_of};
-ghost use Rattle.notice_ledger.specs.Plain.{bare_item, ready_item_kept};
+ghost use Rattle.notice_ledger.specs.Plain.{bar_kept, bare_item, ready_item_kept};
 
+use crate::bars::is_unbarred;
 use crate::due::batch_rows;
 use crate::facts::item_at;
 use crate::owed::{Owed, found, notices};
@@ -95,6 +96,17 @@ fn ready_items(
     Ok(items)
 }
 
+/// Those of the notices that no event bars.
+fn unbarred_among(alloc: Global, past: &[Stamped], rows: &[Owed]) -> Result<Vec<Owed>, OutOfMemory>
+    ensures { IfOk result (λ unbarred. unbarred.items ≡ filter (λ n. is_none (bar_kept past.now n)) rows.now) }
+{
+    let unbarred = rows
+        .iter()
+        .copied()
+        .filter(|notice| is_unbarred(past, notice));
+    Ok(unbarred.collect(alloc)?)
+}
+
 /// How many entries a mail turn of the user adds.
 fn turn_entries(
     alloc: Global,
@@ -108,14 +120,21 @@ fn turn_entries(
         return Ok(0);
     }
     let rows = batch_rows(alloc, past, user)?;
-    let items = ready_items(alloc, past, &rows)?;
+    let mailed = unbarred_among(alloc, past, &rows)?;
+    let items = ready_items(alloc, past, &mailed)?;
     let name = Text::from_str(alloc, "")?;
     let entries = entries(alloc, user, &name, at, items)?;
     Ok(entries.len())
 }
 
-/// Whether the push turn of the user's notice of the message makes an entry: the notice is owed, and the push switch is on.
-/// No event bars it yet.
+/// Whether a push turn hands the notice over: no event bars it, and the push switch is on.
+fn is_handed_over(past: &[Stamped], notice: &Owed) -> bool
+    ensures { result ≡ (is_none (bar_kept past.now notice.now) && switch_on past.now notice.now.user Way.Push) }
+{
+    is_unbarred(past, notice) && is_switch_on(past, notice.user, Way::Push)
+}
+
+/// Whether the push turn of the user's notice of the message makes an entry: the notice is owed and is handed over.
 fn is_pushed(
     alloc: Global,
     past: &[Stamped],
@@ -126,7 +145,7 @@ fn is_pushed(
 {
     let notices = notices(alloc, past)?;
     match found(&notices, user, message, Way::Push) {
-        Some(notice) => Ok(is_switch_on(past, notice.user, Way::Push)),
+        Some(notice) => Ok(is_handed_over(past, notice)),
         None => Ok(false),
     }
 }
@@ -140,7 +159,7 @@ fn push_entries(alloc: Global, past: &[Stamped], item: &PushItem) -> Result<usiz
             let is_pushed = is_pushed(alloc, past, *user, *message)?;
             Ok(if is_pushed { 1 } else { 0 })
         }
-        PushItem::Remove { .. } => Ok(0),
+        PushItem::Remove { .. } => Ok(1),
     }
 }
 

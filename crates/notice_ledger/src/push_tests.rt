@@ -5,7 +5,7 @@ use std::alloc::Global;
 use std::process::Abort;
 use std::test::Fail;
 
-fn push(user: u64, message: u64) -> Event {
+pub fn push(user: u64, message: u64) -> Event {
     Event::PushTurn(PushItem::Notify {
         user: UserId(user),
         message: MessageId(message),

@@ -3,8 +3,9 @@ ghost use Rattle.std.specs.Prelude.{◌≡◌, ◌&&◌, ◌||◌, not, nat_lt, 
 ghost use Rattle.chat_model.specs.Outcomes.{gives_idle, gives_live, has_deal, is_cleared, is_dealt, is_dealt_idle, is_dealt_live, is_idle, is_live, is_missed};
 ghost use Rattle.notice_ledger.specs.Past.Journal.{absorbs};
 ghost use Rattle.notice_ledger.specs.Past.Owed.{clears, readies, readies_by};
-ghost use Rattle.notice_ledger.specs.Plain.{cleared_kept, dealt_kept, ready_kept, spot_of};
+ghost use Rattle.notice_ledger.specs.Plain.{cleared_kept, dealt_kept, ready_kept, spot_of, unbarred_ready_kept};
 
+use crate::bars::is_unbarred;
 use crate::owed::Owed;
 use chat_model::{DealNo, Event, Moment, Outcome, Stamped, UserId, UserVerdict, Verdict};
 
@@ -218,4 +219,14 @@ pub fn ready(journal: &[Stamped], notice: &Owed) -> Option<Spot>
         }
     }
     None
+}
+
+/// The event that makes the notice ready, unless a bar of it stands before.
+pub fn unbarred_ready(journal: &[Stamped], notice: &Owed) -> Option<Spot>
+    ensures { result ≡ option_map spot_of (unbarred_ready_kept journal.now notice.now) }
+{
+    match ready(journal, notice) {
+        Some(spot) if is_unbarred(&journal[..spot.place], notice) => Some(spot),
+        _ => None,
+    }
 }

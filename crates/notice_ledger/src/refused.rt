@@ -5,14 +5,15 @@ ghost use Rattle.chat_model.specs.declared.policy.SpecificChange.{SpecificChange
 ghost use Rattle.std.specs.List.{list_all};
 ghost use Rattle.notice_ledger.specs.Limits.{longest_name, longest_text, longest_topic, most_items};
 ghost use Rattle.notice_ledger.specs.Past.Values.{is_user};
-ghost use Rattle.notice_ledger.specs.Past.Refusals.{first_broken, name_rules, refusal};
+ghost use Rattle.notice_ledger.specs.Past.Refusals.{first_broken, may_read, name_rules, refusal};
 
+use crate::messages::{is_message, is_sender_of, may_read};
 use crate::rules::{is_bad_name, is_bad_period, is_blank, is_longer_than};
 use crate::values::{
     is_channel, is_channel_taken, is_group, is_group_taken, is_subscribed, is_user,
     subscriber_count,
 };
-use chat_model::{ChannelId, GroupId, Refusal, Request, SettingChange, Stamped, UserId};
+use chat_model::{ChannelId, GroupId, MessageId, Refusal, Request, SettingChange, Stamped, UserId};
 
 // In characters.
 const LONGEST_TEXT: usize = 10_000;
@@ -203,6 +204,45 @@ fn direct_refusal(past: &[Stamped], sender: UserId, to: &[UserId], text: &str) -
     }
 }
 
+#[tactic(auto, unfolding(crate::specs::Past::Refusals::refusal))]
+fn deletion_refusal(past: &[Stamped], user: UserId, message: MessageId) -> Option<Refusal>
+    ensures { result ≡ refusal past.now (Request.Delete user message) }
+{
+    if !is_user(past, user) {
+        Some(Refusal::NoUser)
+    } else if !is_message(past, message) {
+        Some(Refusal::NoMessage)
+    } else if !is_sender_of(past, user, message) {
+        Some(Refusal::NotSender)
+    } else {
+        None
+    }
+}
+
+/// Whether the user may read each of these messages.
+fn may_read_all(past: &[Stamped], user: UserId, messages: &[MessageId]) -> bool
+    ensures { result ≡ list_all (may_read past.now user) messages.now }
+{
+    messages
+        .iter()
+        .all(|message| may_read(past, user, *message))
+}
+
+#[tactic(auto, unfolding(crate::specs::Past::Refusals::refusal))]
+fn read_refusal(past: &[Stamped], user: UserId, messages: &[MessageId]) -> Option<Refusal>
+    ensures { result ≡ refusal past.now (Request.Read user messages.now) }
+{
+    if !is_user(past, user) {
+        Some(Refusal::NoUser)
+    } else if !may_read_all(past, user, messages) {
+        Some(Refusal::NoMessage)
+    } else if messages.len() > MOST_ITEMS {
+        Some(TOO_MANY)
+    } else {
+        None
+    }
+}
+
 /// Why the request is refused: the first refusal, by its number, whose rule is broken.
 #[tactic(auto, unfolding(crate::specs::Past::Refusals::refusal))]
 pub fn refusal(past: &[Stamped], request: &Request) -> Option<Refusal>
@@ -234,5 +274,7 @@ pub fn refusal(past: &[Stamped], request: &Request) -> Option<Refusal>
         Request::Direct { sender, to, text } => {
             direct_refusal(past, *sender, to.as_slice(), text.as_str())
         }
+        Request::Delete { user, message } => deletion_refusal(past, *user, *message),
+        Request::Read { user, messages } => read_refusal(past, *user, messages.as_slice()),
     }
 }

@@ -1,18 +1,20 @@
 //! The account of a notice and the counts, computed plainly: no table, and the whole list for each question.
 ghost use Rattle.std.specs.Prelude.{◌≡◌, map, count_by, IfOk};
-ghost use Rattle.notice_ledger.specs.Past.Audit.{in_64_bits, same_account, same_cause};
+ghost use Rattle.notice_ledger.specs.Past.Audit.{in_64_bits, removals_waiting, removals_written, same_account, same_cause};
 ghost use Rattle.notice_ledger.specs.Past.Owed as lawful_owed;
 ghost use Rattle.notice_ledger.specs.Past.Audit as lawful_audit;
 ghost use Rattle.notice_ledger.specs.Owed.{account};
 ghost use Rattle.notice_ledger.specs.Audit.{counts_of};
-ghost use Rattle.notice_ledger.specs.Plain.{account_kept, counts_kept};
+ghost use Rattle.notice_ledger.specs.Plain.{account_kept, counts_kept, removals_counted};
 
 use crate::Account;
 use crate::kept::lawful_events;
 use crate::outbox::entry_count;
 use crate::owed::{Owed, found, notices};
+use crate::pushes::waiting_items;
+use crate::revocations::{RevokedPush, revoked_pushes, waiting_among, written_among};
 use crate::turns::account_of;
-use chat_model::{Cause, Counts, MessageId, OutOfMemory, Stamped, UserId, Way};
+use chat_model::{Cause, Counts, MessageId, OutOfMemory, PushItem, Stamped, UserId, Way};
 use std::alloc::Global;
 
 /// Where a notice stands after events that are all lawful.
@@ -104,9 +106,36 @@ fn count_of(accounts: &[Account], account: Account) -> u64
     count_among(accounts, account) as u64
 }
 
-/// The counts of these accounts, with so many entries.
-fn counts_among(accounts: &[Account], entries: u64) -> Counts
-    ensures { result ≡ counts_kept accounts.now entries }
+/// How many revoked pushes there are whose removal waits, and how many whose removal was written.
+#[derive(Clone, Copy, Debug)]
+pub struct RemovalCounts {
+    pub waiting: u64,
+    pub written: u64,
+}
+
+/// How many of the revoked pushes have a removal among the items that wait, and how many have none there.
+fn removals_among(waiting: &[PushItem], revoked: &[RevokedPush]) -> RemovalCounts
+    ensures { result ≡ removals_counted waiting.now revoked.now }
+{
+    RemovalCounts {
+        waiting: waiting_among(waiting, revoked) as u64,
+        written: written_among(waiting, revoked) as u64,
+    }
+}
+
+/// How many revoked pushes there are whose removal waits, and how many whose removal was written.
+fn removals(alloc: Global, events: &[Stamped]) -> Result<RemovalCounts, OutOfMemory>
+    ensures counts_waiting { IfOk result (λ removals. removals.waiting ≡ in_64_bits (removals_waiting events.now)) }
+    ensures counts_written { IfOk result (λ removals. removals.written ≡ in_64_bits (removals_written events.now)) }
+{
+    let waiting = waiting_items(alloc, events)?;
+    let revoked = revoked_pushes(alloc, events)?;
+    Ok(removals_among(&waiting, &revoked))
+}
+
+/// The counts of these accounts, with so many entries, and with these removals.
+fn counts_among(accounts: &[Account], entries: u64, removals: RemovalCounts) -> Counts
+    ensures { result ≡ counts_kept accounts.now entries removals }
 {
     Counts {
         flight: count_of(accounts, Account::Flight),
@@ -118,9 +147,8 @@ fn counts_among(accounts: &[Account], entries: u64) -> Counts
         off: count_of(accounts, Account::Cancelled(Cause::SwitchedOff)),
         live: count_of(accounts, Account::LiveQueue),
         entries,
-        // No push is revoked yet.
-        waiting: 0,
-        written: 0,
+        waiting: removals.waiting,
+        written: removals.written,
     }
 }
 
@@ -131,7 +159,8 @@ fn lawful_counts(alloc: Global, events: &[Stamped]) -> Result<Counts, OutOfMemor
     let notices = notices(alloc, events)?;
     let accounts = accounts_of(alloc, events, &notices)?;
     let entries = entry_count(alloc, events)?;
-    Ok(counts_among(&accounts, entries))
+    let removals = removals(alloc, events)?;
+    Ok(counts_among(&accounts, entries, removals))
 }
 
 /// How many owed notices stand where, and how many outbox entries there are, after any list of events, whose lawful ones

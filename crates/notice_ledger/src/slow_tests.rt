@@ -83,7 +83,7 @@ pub fn dealt(alloc: Global, deal: u64, verdict: Verdict) -> Result<Event, Fail> 
 }
 
 // A queue of Ben's cleared the deal.
-fn cleared(alloc: Global, deal: u64) -> Result<Event, Fail> {
+pub fn cleared(alloc: Global, deal: u64) -> Result<Event, Fail> {
     let mut deals = List::new(alloc);
     deals.push(DealNo(deal))?;
     Ok(Event::Absorbed(Outcome::Cleared {
@@ -104,7 +104,7 @@ pub fn missed(alloc: Global, count: u64) -> Result<Event, Fail> {
 }
 
 // So many notices are in flight.
-fn in_flight(flight: u64) -> Counts {
+pub fn in_flight(flight: u64) -> Counts {
     let mut found = counts(0, 0);
     found.flight = flight;
     found
@@ -442,7 +442,7 @@ fn a_period_outside_its_bounds_is_not_set(rt: HostRuntime) -> Result<(), Fail> {
 }
 
 // A user's message to the topic.
-fn send_by(alloc: Global, sender: u64, topic: &str, text: &str) -> Result<Event, Fail> {
+pub fn send_by(alloc: Global, sender: u64, topic: &str, text: &str) -> Result<Event, Fail> {
     Ok(Event::Asked(Request::Send {
         sender: UserId(sender),
         channel: ChannelId(1),

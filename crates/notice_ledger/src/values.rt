@@ -194,7 +194,7 @@ fn channel_count(past: &[Stamped]) -> usize
 }
 
 /// Whether the number is one of so many, counted from 1.
-fn is_number(number: u64, count: usize) -> bool
+pub fn is_number(number: u64, count: usize) -> bool
     ensures { result ≡ (nat_lt 0 number && nat_le number count) }
 {
     0 < number && number <= count as u64

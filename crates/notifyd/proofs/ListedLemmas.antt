@@ -3,15 +3,13 @@ use Rattle.std.proofs.Common.{◌≡◌, ℕ, Bool, true, false, cond, ◌&&◌,
 use Rattle.std.specs.Option.{option_map, unwrap_or}
 use Rattle.std.specs.List.{list_all, filter_map, cons_option}
 use Rattle.std.proofs.lemmas.Slice.Eq.{bytes_eq-Decides}
-use Rattle.chat_model.specs.declared.ids.UserId.{UserId}
 use Rattle.chat_model.specs.Number.{decimal_value, is_number, number_of}
 use Rattle.notifyd.specs.Field.{parts_of, numbers_of, list_of}
-use Rattle.notifyd.specs.Listed.{users_of}
 use Rattle.notifyd.proofs.FieldLemmas.{both}
 
--- the user of a number
-abbrev pub user_of : List ℕ → Option UserId
-user_of part = option_map (λ number. record { 0 = number }) (number_of part)
+-- what is made of a part that is a number
+abbrev pub made_of : {A : Type 0} → (ℕ → A) → List ℕ → Option A
+made_of make part = option_map make (number_of part)
 
 pub is_some-number_of : (word : List ℕ) → is_some (number_of word) ≡ is_number word
 unfolding number_of
@@ -29,25 +27,25 @@ list_of-is_some word other = rw other (by (list_all is_number (parts_of word)))
     by true = refl
     by false = refl
 
-user_of-number : (part : List ℕ) → is_number part ≡ true → user_of part ≡ Some (record { 0 = decimal_value part })
+made_of-number : {A : Type 0} → (make : ℕ → A) → (part : List ℕ) → is_number part ≡ true → made_of make part ≡ Some (make (decimal_value part))
 unfolding number_of
-user_of-number part number = ap (λ t. option_map (λ n. record { 0 = n }) (cond t (Some (decimal_value part)) None)) number
+made_of-number make part number = ap (λ t. option_map make (cond t (Some (decimal_value part)) None)) number
 
-filter_map-user_of : (parts : List (List ℕ)) → list_all is_number parts ≡ true → filter_map user_of parts ≡ users_of (map decimal_value parts)
-filter_map-user_of [] numbers = refl
-filter_map-user_of (part ∷ parts) numbers =
+filter_map-made_of : {A : Type 0} → (make : ℕ → A) → (parts : List (List ℕ)) → list_all is_number parts ≡ true → filter_map (made_of make) parts ≡ map make (map decimal_value parts)
+filter_map-made_of make [] numbers = refl
+filter_map-made_of make (part ∷ parts) numbers =
     let p = both (is_number part) (list_all is_number parts) numbers in
-    ap (λ user. cons_option user (filter_map user_of parts)) (user_of-number part p.0) ∙ ap (λ users. record { 0 = decimal_value part } ∷ users) (filter_map-user_of parts p.1)
+    ap (λ made. cons_option made (filter_map (made_of make) parts)) (made_of-number make part p.0) ∙ ap (λ rest. make (decimal_value part) ∷ rest) (filter_map-made_of make parts p.1)
 
-pub users_of-list_of : (word : List ℕ) → bytes_eq word (codes "-") ≡ false → is_some (list_of word) ≡ true → filter_map user_of (parts_of word) ≡ users_of (unwrap_or (list_of word) [])
+pub made_of-list_of : {A : Type 0} → (make : ℕ → A) → (word : List ℕ) → bytes_eq word (codes "-") ≡ false → is_some (list_of word) ≡ true → filter_map (made_of make) (parts_of word) ≡ map make (unwrap_or (list_of word) [])
 unfolding list_of numbers_of
-users_of-list_of word other some =
+made_of-list_of make word other some =
     let numbers = list_of-is_some word other ∙ some in
-    filter_map-user_of (parts_of word) numbers ∙ rw (other, numbers) refl
+    filter_map-made_of make (parts_of word) numbers ∙ rw (other, numbers) refl
 
-pub users_of-dash : (word : List ℕ) → bytes_eq word (codes "-") ≡ true → [] ≡ users_of (unwrap_or (list_of word) [])
+pub made_of-dash : {A : Type 0} → (make : ℕ → A) → (word : List ℕ) → bytes_eq word (codes "-") ≡ true → [] ≡ map make (unwrap_or (list_of word) [])
 unfolding list_of
-users_of-dash word dash = rw dash refl
+made_of-dash make word dash = rw dash refl
 
 pub list_all-number_of : (parts : List (List ℕ)) → list_all (λ part. is_some (number_of part)) parts ≡ list_all is_number parts
 list_all-number_of [] = refl

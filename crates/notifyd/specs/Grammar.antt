@@ -2,13 +2,13 @@
 use Rattle.std.specs.Prelude.{ℕ, ◌+◌, ◌-◌, ◌==◌, ◌&&◌, ◌||◌, Bool, true, false, IsTrue, List, length, take, slice_index, nat_lt, if◌then◌else◌, Result, Ok, Err, codes, bytes_eq}
 use Rattle.std.specs.List.{list_all}
 use Rattle.std.specs.Str.Lossy.{utf8_valid_len}
-use Rattle.chat_model.specs.declared.request.Request.TheVariants.{AddUser, AddGroup, Member, AddChannel, Subscribe, Set, SetChannel, SetPolicy, Mute, Send, Direct}
+use Rattle.chat_model.specs.declared.request.Request.TheVariants.{AddUser, AddGroup, Member, AddChannel, Subscribe, Set, SetChannel, SetPolicy, Mute, Send, Direct, Delete, Read}
 use Rattle.chat_model.specs.Number.{number_of}
 use Rattle.notifyd.specs.declared.line.Line.{Line}
 use Rattle.notifyd.specs.declared.line.Line.TheVariants.{Nothing, At, Asked, Mail, Push, Audit, Register, Beat, Ack, Leave, Sweep, Deal, Absorb}
 use Rattle.notifyd.specs.Field.{column_of, is_space, field_start, word_end, word_at, word_field, moment_of, switch_of, queue_of, upto_of, list_of, numbers_of, string_field, line_end}
 use Rattle.notifyd.specs.Keys.{setting_key_of, setting_of, specific_key_of, specific_of, policy_of}
-use Rattle.notifyd.specs.Listed.{users_of}
+use Rattle.notifyd.specs.Listed.{users_of, messages_of}
 
 -- what a part of a line reads as, or the column at which the line is bad
 infixl 10 ◌>>=◌
@@ -89,6 +89,22 @@ direct_line line place = do
   text ← string_field line to.1
   end ← line_end line text.1
   Ok (Asked (Direct (record { 0 = sender.0 }) (users_of to.0) text.0))
+
+-- `delete ID ID`: user, message
+unfoldable pub delete_line : List ℕ → ℕ → Result Line ℕ
+delete_line line place = do
+  user ← word_field number_of line place
+  message ← word_field number_of line user.1
+  end ← line_end line message.1
+  Ok (Asked (Delete (record { 0 = user.0 }) (record { 0 = message.0 })))
+
+-- `read ID LIST`: user, messages
+unfoldable pub read_line : List ℕ → ℕ → Result Line ℕ
+read_line line place = do
+  user ← word_field number_of line place
+  messages ← word_field numbers_of line user.1
+  end ← line_end line messages.1
+  Ok (Asked (Read (record { 0 = user.0 }) (messages_of messages.0)))
 
 -- `set ID KEY BOOL`, `set ID period NUM`: user, setting, value
 unfoldable pub set_line : List ℕ → ℕ → Result Line ℕ
@@ -234,7 +250,7 @@ preference_reading line =
     else (if bytes_eq word (codes "mute") then mute_line line place
     else step_reading line)))
 
--- a line by which a message is sent, or else one that adds nothing
+-- a line by which a message is sent, deleted or read, or else one that adds nothing
 unfoldable pub message_reading : List ℕ → Result Line ℕ
 message_reading line =
     let start = field_start line 0 in
@@ -242,7 +258,9 @@ message_reading line =
     let place = word_end line start in
     if bytes_eq word (codes "send") then send_line line place
     else (if bytes_eq word (codes "dm") then direct_line line place
-    else preference_reading line)
+    else (if bytes_eq word (codes "delete") then delete_line line place
+    else (if bytes_eq word (codes "read") then read_line line place
+    else preference_reading line)))
 
 -- a line of fields: its first word says which fields follow. It is one of who is there and who belongs where, or else
 -- another one

@@ -196,8 +196,8 @@ fn notices_have_their_accounts_in_what_is_kept(rt: HostRuntime) -> Result<(), Fa
     Ok(())
 }
 
-// A keeper that keeps the same journal, and the rows with a change.
-fn with_change(
+/// A keeper that keeps the same journal, and the rows with a change.
+pub fn with_change(
     rt: &impl AllocGlobal,
     keeper: MemoryKeeper,
     change: RowChange,

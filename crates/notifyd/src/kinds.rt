@@ -2,12 +2,12 @@
 //! before it takes memory for texts and lists. The first word is looked for in groups of a few kinds.
 ghost use Rattle.std.specs.Prelude.{◌≤◌, length, IsUtf8};
 ghost use Rattle.notifyd.specs.Fault.{IsRead};
-ghost use Rattle.notifyd.specs.Grammar.{user_line, bot_line, group_line, member_line, channel_line, subscribe_line, send_line, direct_line, message_reading, fields_reading};
+ghost use Rattle.notifyd.specs.Grammar.{user_line, bot_line, group_line, member_line, channel_line, subscribe_line, send_line, direct_line, delete_line, read_line, message_reading, fields_reading};
 
 use crate::fields::Fields;
 use crate::line::{Line, LineFault, MAX_LINE};
 use crate::preference_kinds::read_preference;
-use chat_model::{ChannelId, GroupId, Request, UserId};
+use chat_model::{ChannelId, GroupId, MessageId, Request, UserId};
 use std::alloc::Global;
 
 /// Reads a line of fields: one of who is there and who belongs where, or else another one.
@@ -36,7 +36,7 @@ pub fn read_fields(alloc: Global, line: &[u8]) -> Result<Line, LineFault>
     }
 }
 
-// Reads a line by which a message is sent, or else another one that adds nothing.
+// Reads a line by which a message is sent, deleted or read, or else another one that adds nothing.
 #[tactic(auto, unfolding(crate::specs::Grammar::message_reading))]
 fn read_message(alloc: Global, line: &[u8]) -> Result<Line, LineFault>
     requires small { length line.now ≤ MAX_LINE }
@@ -49,6 +49,10 @@ fn read_message(alloc: Global, line: &[u8]) -> Result<Line, LineFault>
         read_send(alloc, &mut fields)
     } else if kind.bytes == b"dm".as_slice() {
         read_direct(alloc, &mut fields)
+    } else if kind.bytes == b"delete".as_slice() {
+        read_delete(&mut fields)
+    } else if kind.bytes == b"read".as_slice() {
+        read_read(alloc, &mut fields)
     } else {
         read_preference(alloc, line)
     }
@@ -153,5 +157,28 @@ fn read_direct(alloc: Global, fields: &mut Fields<'_>) -> Result<Line, LineFault
         sender,
         to: to.users(alloc)?,
         text: text.text(alloc)?,
+    }))
+}
+
+#[tactic(auto, unfolding(crate::specs::Grammar::delete_line))]
+fn read_delete(fields: &mut Fields<'_>) -> Result<Line, LineFault>
+    ensures { IsRead (delete_line fields.old.line fields.old.place) result }
+{
+    let user = UserId(fields.number()?);
+    let message = MessageId(fields.number()?);
+    fields.end()?;
+    Ok(Line::Asked(Request::Delete { user, message }))
+}
+
+#[tactic(auto, unfolding(crate::specs::Grammar::read_line))]
+fn read_read(alloc: Global, fields: &mut Fields<'_>) -> Result<Line, LineFault>
+    ensures { IsRead (read_line fields.old.line fields.old.place) result }
+{
+    let user = UserId(fields.number()?);
+    let messages = fields.numbers()?;
+    fields.end()?;
+    Ok(Line::Asked(Request::Read {
+        user,
+        messages: messages.messages(alloc)?,
     }))
 }

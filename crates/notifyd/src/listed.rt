@@ -3,9 +3,9 @@ ghost use Rattle.std.specs.Prelude.{◌≡◌, ℕ, List, [], is_some, IfOk, Mat
 ghost use Rattle.std.specs.List.{list_all};
 ghost use Rattle.chat_model.specs.Number.{is_number};
 ghost use Rattle.notifyd.specs.Field.{list_of, numbers_of, parts_of};
-ghost use Rattle.notifyd.specs.Listed.{users_of};
+ghost use Rattle.notifyd.specs.Listed.{users_of, messages_of};
 
-use chat_model::{List, OutOfMemory, UserId, number_of};
+use chat_model::{List, MessageId, OutOfMemory, UserId, number_of};
 use std::alloc::Global;
 use std::marker::Model;
 
@@ -63,6 +63,21 @@ impl<'a> Listed<'a> {
             .filter_map(|part| Some(UserId(number_of(part)?)))
             .collect(alloc)?;
         Ok(List::from(users))
+    }
+
+    /// Takes the memory for a list of messages.
+    pub fn messages(&self, alloc: Global) -> Result<List<MessageId>, OutOfMemory>
+        ensures { IfOk result (λ messages. messages ≡ messages_of self.now) }
+    {
+        let word = self.bytes;
+        if word == b"-".as_slice() {
+            return Ok(List::new(alloc));
+        }
+        let messages: Vec<MessageId> = word
+            .split(|byte| *byte == b',')
+            .filter_map(|part| Some(MessageId(number_of(part)?)))
+            .collect(alloc)?;
+        Ok(List::from(messages))
     }
 }
 

@@ -45,6 +45,8 @@ use std::{env, io};
 #[cfg(test)]
 mod batch_tests;
 #[cfg(test)]
+mod deletion_tests;
+#[cfg(test)]
 mod group_tests;
 #[cfg(test)]
 mod hook_tests;
@@ -62,6 +64,10 @@ mod play_tests;
 mod preference_tests;
 #[cfg(test)]
 mod push_tests;
+#[cfg(test)]
+mod read_tests;
+#[cfg(test)]
+mod removal_tests;
 #[cfg(test)]
 mod request_tests;
 #[cfg(test)]

@@ -1,6 +1,7 @@
 //! A play that was made by hand, and one of which each line is compared with the slow computation.
 use super::*;
 use crate::batch_tests::BATCHES;
+use crate::deletion_tests::{DELETIONS, READERS};
 use crate::ending::Met;
 use crate::group_tests::GROUPS;
 use crate::hook_tests::HOOK;
@@ -10,6 +11,8 @@ use crate::period_tests::PERIODS;
 use crate::play::{Next, Play};
 use crate::preference_tests::{PREFERENCES, opened};
 use crate::push_tests::{PUSH_RUNS, PUSHED_NEXT, PUSHES};
+use crate::read_tests::READS;
+use crate::removal_tests::{REMOVAL_RUNS, REMOVED_NEXT};
 use crate::request_tests::{NOTICES, REQUESTS};
 use crate::run_tests::{ABSORBED_NEXT, IDLE, OPENING, lines_and_answers};
 use crate::under_way::UnderWay;
@@ -223,12 +226,32 @@ fn the_slow_computation_agrees_behind_each_line(rt: HostRuntime) -> Result<(), F
 }
 
 #[test]
+fn the_slow_computation_agrees_behind_reads_and_deletions(rt: HostRuntime) -> Result<(), Fail> {
+    for rows in READS {
+        follow_counted(&rt, rows)?;
+    }
+    for rows in DELETIONS {
+        follow_counted(&rt, rows)?;
+    }
+    for rows in READERS {
+        follow_opened(&rt, rows)?;
+    }
+    Ok(())
+}
+
+// The calls of the keeper at which it fails.
+const FAULTS: [(&str, &[u64]); 3] = [
+    (ABSORBED_NEXT, &[9]),
+    (PUSHED_NEXT, &[10]),
+    (REMOVED_NEXT, &[11, 13]),
+];
+
+#[test]
 fn the_slow_computation_agrees_behind_a_fault(rt: HostRuntime) -> Result<(), Fail> {
     let alloc = rt.alloc();
-    for (rows, call) in [(ABSORBED_NEXT, 9), (PUSHED_NEXT, 10)] {
+    for (rows, calls) in FAULTS {
         let worked = format!(in alloc; "{OPENING}{rows}")?;
-        let mut failing = List::new(alloc);
-        failing.push(call)?;
+        let failing = List::from(Vec::from_slice(alloc, calls)?);
         follow_over(&rt, MemoryKeeper::new(alloc, failing), worked.as_str())?;
     }
     Ok(())
@@ -242,6 +265,10 @@ fn the_slow_computation_agrees_over_starts(rt: HostRuntime) -> Result<(), Fail> 
     }
     let mut keeper = MemoryKeeper::new(rt.alloc(), List::new(rt.alloc()));
     for script in PUSH_RUNS {
+        keeper = follow_over(&rt, keeper, script)?;
+    }
+    let mut keeper = MemoryKeeper::new(rt.alloc(), List::new(rt.alloc()));
+    for (script, _) in REMOVAL_RUNS {
         keeper = follow_over(&rt, keeper, script)?;
     }
     Ok(())

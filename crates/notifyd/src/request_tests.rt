@@ -184,6 +184,13 @@ fn names_texts_and_lists_have_their_limits(rt: HostRuntime) -> Result<(), Fail> 
                 (",2", 10_000),
                 (" \"x\" => refused 23 limit 10000", 1),
             ],
+            &[("read 2 1", 1), (",1", 9_999), (" => ok", 1)],
+            &[
+                ("read 2 1", 1),
+                (",1", 10_000),
+                (" => refused 23 limit 10000", 1),
+            ],
+            &[("read 2 9", 1), (",9", 10_000), (" => refused 12", 1)],
             &[
                 ("send 1 1 \"a\" \"", 1),
                 (" ", 10_001),

@@ -53,7 +53,7 @@ pub fn expect_over<R: Abort + AllocGlobal>(
     let alloc = rt.alloc();
     let words = vec![in alloc; Text::from_str(alloc, command)?]?;
     let mut source = MemorySource::new(bytes, piece, list_of(alloc, failing.source)?);
-    let mut sink = MemorySink::new(alloc, 4_096, list_of(alloc, failing.sink)?)?;
+    let mut sink = MemorySink::new(alloc, 65_536, list_of(alloc, failing.sink)?)?;
     let mut spool = MemorySpool::new(alloc, List::new(alloc));
     let ran = run(
         alloc,

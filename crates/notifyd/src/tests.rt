@@ -199,7 +199,7 @@ fn last_lines_have_their_texts(rt: HostRuntime) -> Result<(), Fail> {
 
 #[test]
 fn bad_lines_have_their_columns(rt: HostRuntime) -> Result<(), Fail> {
-    let rows: [(&[u8], Column); 41] = [
+    let rows: [(&[u8], Column); 49] = [
         (b"at", 3),
         (b"hello", 1),
         (b"user \"Ada", 6),
@@ -241,6 +241,14 @@ fn bad_lines_have_their_columns(rt: HostRuntime) -> Result<(), Fail> {
         (b"mute 1 2 on 3\n", 13),
         (b"dm 1 - \"x\"\n", 6),
         (b"dm 1 2,3 x\n", 10),
+        (b"delete 1\n", 9),
+        (b"delete 1 2 3\n", 12),
+        (b"delete one 2\n", 8),
+        (b"read 2\n", 7),
+        (b"read 2 -\n", 8),
+        (b"read 2 1, 2\n", 8),
+        (b"read 2 1 2\n", 10),
+        (b"read x 1\n", 6),
     ];
     for (bytes, column) in rows {
         match read_line(rt.alloc(), bytes) {
@@ -295,6 +303,31 @@ fn a_group_is_read_with_its_list_as_written(rt: HostRuntime) -> Result<(), Fail>
             assert_eq!(rt; name.as_str(), "ops");
             let written = [UserId(2), UserId(1), UserId(2)];
             assert_eq!(rt; members.as_slice(), written.as_slice());
+            Ok(())
+        }
+        _ => panic!(rt; "the line was not read"),
+    }
+}
+
+#[test]
+fn a_read_is_read_with_its_list_as_written(rt: HostRuntime) -> Result<(), Fail> {
+    match read_line(rt.alloc(), b"read 2 3,1,3\n") {
+        Ok(Line::Asked(Request::Read { user, messages })) => {
+            assert_eq!(rt; user, UserId(2));
+            let written = [MessageId(3), MessageId(1), MessageId(3)];
+            assert_eq!(rt; messages.as_slice(), written.as_slice());
+            Ok(())
+        }
+        _ => panic!(rt; "the line was not read"),
+    }
+}
+
+#[test]
+fn a_deletion_is_read(rt: HostRuntime) -> Result<(), Fail> {
+    match read_line(rt.alloc(), b" delete 1 007\r\n") {
+        Ok(Line::Asked(Request::Delete { user, message })) => {
+            assert_eq!(rt; user, UserId(1));
+            assert_eq!(rt; message, MessageId(7));
             Ok(())
         }
         _ => panic!(rt; "the line was not read"),

@@ -7,6 +7,7 @@ use Rattle.chat_model.specs.declared.row.Cause.TheVariants.{Read, Deleted, Switc
 use Rattle.notice_ledger.specs.declared.accounts.Account.{Account}
 use Rattle.notice_ledger.specs.declared.accounts.Account.TheVariants.{NotOwed, Flight, Held, Ready, Handed, Cancelled, LiveQueue}
 use Rattle.notice_ledger.specs.Past.Owed.{notices, account_of}
+use Rattle.notice_ledger.specs.Past.Pushes.{is_removal_waiting, is_removal_written}
 use Rattle.notice_ledger.specs.Past.Outbox.{outbox}
 
 -- two causes are the same
@@ -31,11 +32,18 @@ same_account _ _ = false
 unfoldable pub owed_with : List Stamped → Account → ℕ
 owed_with j account = count_by (λ n. same_account (account_of j n) account) (notices j)
 
+-- how many pushes are revoked whose removal waits, and how many whose removal was written
+unfoldable pub removals_waiting : List Stamped → ℕ
+removals_waiting j = count_by (is_removal_waiting j) (notices j)
+
+unfoldable pub removals_written : List Stamped → ℕ
+removals_written j = count_by (is_removal_written j) (notices j)
+
 -- a count in 64 bits: a greater one is given as the greatest that they hold
 abbrev pub in_64_bits : ℕ → ℕ
 in_64_bits count = min count (2 ^ 64 - 1)
 
--- the owed notices by account, and the outbox entries; no push is revoked yet, so no removal waits or was written
+-- the owed notices by account, the outbox entries, and the revoked pushes whose removal waits or was written
 abbrev pub counts_of : List Stamped → Counts
 counts_of j = record {
   flight = in_64_bits (owed_with j Flight);
@@ -47,6 +55,6 @@ counts_of j = record {
   off = in_64_bits (owed_with j (Cancelled SwitchedOff));
   live = in_64_bits (owed_with j LiveQueue);
   entries = in_64_bits (length (outbox j));
-  waiting = 0;
-  written = 0;
+  waiting = in_64_bits (removals_waiting j);
+  written = in_64_bits (removals_written j);
 }

@@ -88,11 +88,10 @@ push_entry j at n = entry.Push n.user (user_name j n.user) at (conversation j n)
 abbrev pub is_pushed : List Stamped → Notice → Bool
 is_pushed j n = is_none (bar j n) && switch_on j n.user ways.Push
 
--- the entries of an item's push turn at a stamp: one where the notice is handed over; nothing makes an item that removes
--- pushes yet
+-- the entries of an item's push turn at a stamp: one where the notice is handed over, and one for a removal
 abbrev pub push_entries : List Stamped → ℕ → PushItem → List Entry
 push_entries j at (Notify u m) = option_map_or (λ n. if is_pushed j n then push_entry j at n ∷ [] else []) (notice_to j u m ways.Push) []
-push_entries j at (Remove u ms) = []
+push_entries j at (Remove u ms) = entry.Remove u (user_name j u) at ms ∷ []
 
 -- the entries that an event at a stamp adds
 abbrev pub entries_by : List Stamped → ℕ → Event → List Entry

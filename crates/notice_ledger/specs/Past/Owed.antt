@@ -12,7 +12,7 @@ use Rattle.chat_model.specs.declared.ids.DealNo.{DealNo}
 use Rattle.chat_model.specs.declared.deal.Outcome.{Outcome}
 use Rattle.chat_model.specs.declared.push_item.PushItem.TheVariants.{Notify}
 use Rattle.chat_model.specs.declared.row.Cause.{Cause}
-use Rattle.chat_model.specs.declared.row.Cause.TheVariants.{SwitchedOff}
+use Rattle.chat_model.specs.declared.row.Cause.TheVariants.{Read, Deleted, SwitchedOff}
 use Rattle.chat_model.specs.declared.settings.Settings.{Settings}
 use Rattle.chat_model.specs.declared.trigger.Trigger.{Trigger}
 use Rattle.chat_model.specs.declared.trigger.Way.{Way}
@@ -23,7 +23,7 @@ use Rattle.notice_ledger.specs.declared.accounts.Account.{Account}
 use Rattle.notice_ledger.specs.declared.accounts.Account.TheVariants.{NotOwed, Flight, Held, Ready, Handed, Cancelled, LiveQueue}
 use Rattle.notice_ledger.specs.Past.Journal.{Occurrence, occurrences, first_behind, some_behind, absorbs}
 use Rattle.notice_ledger.specs.Past.Runs.{is_restart}
-use Rattle.notice_ledger.specs.Past.Values.{SentMessage, message_of, messages, users, deal_count, settings}
+use Rattle.notice_ledger.specs.Past.Values.{SentMessage, message_of, messages, users, deal_count, settings, reads, deletes}
 use Rattle.notice_ledger.specs.Past.Triggers.{trigger, came_by}
 
 -- an owed notice: to whom, of which message, by which way; with its trigger, the group by which it comes, its deal and the
@@ -112,9 +112,10 @@ was_dealt j n = some_behind n.owing.place (λ o. absorbs (is_dealt n.deal) o.eve
 
 -- ---- bars
 
--- the cause with which an event bars the notices of a user, a message and a way, if it bars them; none does yet
+-- the cause with which an event bars the notices of a user, a message and a way, if it bars them: a read of the message by
+-- the user, or its deletion
 unfoldable pub bar_cause : UserId → MessageId → Way → Occurrence → Option Cause
-bar_cause u m w o = None
+bar_cause u m w o = if reads u m o.event then Some Read else if deletes m o.event then Some Deleted else None
 
 -- the first event behind a place that bars them
 abbrev pub bar_behind : ℕ → UserId → MessageId → Way → List Stamped → Option Occurrence

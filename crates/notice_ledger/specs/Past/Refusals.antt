@@ -1,17 +1,21 @@
 -- Which rule of a request is broken.
-use Rattle.std.specs.Prelude.{ℕ, Bool, false, ◌&&◌, ◌||◌, not, nat_lt, List, [], ◌∷◌, length, Option, Some, None, if◌then◌else◌}
+use Rattle.std.specs.Prelude.{ℕ, Bool, false, ◌&&◌, ◌||◌, ◌==◌, not, nat_lt, List, [], ◌∷◌, length, Option, Some, None, if◌then◌else◌}
 use Rattle.std.specs.List.{list_all, list_any}
+use Rattle.std.specs.Option.{option_map_or}
 use Rattle.std.specs.Str.{str_eq_ignore_ascii_case}
 use Rattle.chat_model.specs.declared.event.Stamped.{Stamped}
+use Rattle.chat_model.specs.declared.ids.MessageId.{MessageId}
+use Rattle.chat_model.specs.declared.ids.UserId.{UserId}
 use Rattle.chat_model.specs.declared.request.Request.{Request}
-use Rattle.chat_model.specs.declared.request.Request.TheVariants.{AddUser, AddGroup, Member, AddChannel, Subscribe, Set, SetChannel, SetPolicy, Mute, Send, Direct}
+use Rattle.chat_model.specs.declared.request.Request.TheVariants.{AddUser, AddGroup, Member, AddChannel, Subscribe, Set, SetChannel, SetPolicy, Mute, Send, Direct, Delete, Read}
 use Rattle.chat_model.specs.declared.request.Refusal.{Refusal}
-use Rattle.chat_model.specs.declared.request.Refusal.TheVariants.{NoUser, NoChannel, NoGroup, Exists, NotSubscribed, EmptyText, TextTooLong, TopicTooLong, BadPeriod, TooMany, NameTooLong, BadName}
+use Rattle.chat_model.specs.declared.request.Refusal.TheVariants.{NoUser, NoChannel, NoMessage, NoGroup, Exists, NotSender, NotSubscribed, EmptyText, TextTooLong, TopicTooLong, BadPeriod, TooMany, NameTooLong, BadName}
 use Rattle.chat_model.specs.declared.settings.SettingChange.{SettingChange}
 use Rattle.chat_model.specs.declared.settings.SettingChange.TheVariants.{Period}
 use Rattle.notice_ledger.specs.Texts.{is_longer_than, is_blank, is_bad_name}
 use Rattle.notice_ledger.specs.Limits.{longest_text, longest_topic, longest_name, most_items, shortest_period, longest_period}
-use Rattle.notice_ledger.specs.Past.Values.{is_user, is_group, groups, is_channel, channels, subscribed, subscriber_count}
+use Rattle.notice_ledger.specs.Past.Values.{SentMessage, is_user, is_group, groups, is_channel, channels, subscribed, subscriber_count, message, is_message}
+use Rattle.notice_ledger.specs.Past.Triggers.{is_recipient}
 
 -- one of the names is this one without ASCII case
 unfoldable pub is_taken : List (List ℕ) → List ℕ → Bool
@@ -38,6 +42,14 @@ name_rules name = rule (is_longer_than longest_name name) NameTooLong ∷ rule (
 abbrev pub is_bad_period : SettingChange → Bool
 is_bad_period (Period seconds) = nat_lt seconds shortest_period || nat_lt longest_period seconds
 is_bad_period _ = false
+
+-- the user sent the message
+abbrev pub is_sender : UserId → SentMessage → Bool
+is_sender u m = m.sender.0 == u.0
+
+-- there is the message, and the user sent or received it
+abbrev pub may_read : List Stamped → UserId → MessageId → Bool
+may_read j u m = is_message j m && option_map_or (λ sent. is_sender u sent || is_recipient sent u) (message j m) false
 
 -- the rules that concern a request after a journal, in the order of the refusals' numbers
 abbrev pub rules_of : List Stamped → Request → List Rule
@@ -86,6 +98,16 @@ rules_of j (Direct sender to text) =
     ∷ rule (is_blank text) EmptyText
     ∷ rule (is_longer_than longest_text text) TextTooLong
     ∷ rule (nat_lt most_items (length to)) (TooMany most_items)
+    ∷ []
+rules_of j (Delete user m) =
+    rule (not (is_user j user)) NoUser
+    ∷ rule (not (is_message j m)) NoMessage
+    ∷ rule (not (option_map_or (is_sender user) (message j m) false)) NotSender
+    ∷ []
+rules_of j (Read user ms) =
+    rule (not (is_user j user)) NoUser
+    ∷ rule (not (list_all (may_read j user) ms)) NoMessage
+    ∷ rule (nat_lt most_items (length ms)) (TooMany most_items)
     ∷ []
 
 -- the refusal of a request after a journal: the first, by number, whose rule is broken

@@ -11,7 +11,7 @@ use Rattle.chat_model.specs.declared.row.Stage.TheVariants as stage
 use Rattle.chat_model.specs.Rows.{key_cmp, key_of}
 use Rattle.notice_ledger.specs.declared.accounts.Account.{Account}
 use Rattle.notice_ledger.specs.declared.accounts.Account.TheVariants.{Flight, Held, Ready}
-use Rattle.notice_ledger.specs.Past.Values.{Person, people, SentMessage, messages, settings}
+use Rattle.notice_ledger.specs.Past.Values.{Person, people, SentMessage, messages, is_deleted, settings}
 use Rattle.notice_ledger.specs.Past.Owed.{Notice, notices, account_of}
 use Rattle.notice_ledger.specs.Past.Pushes.{is_active}
 use Rattle.notice_ledger.specs.Past.Outbox.{outbox}
@@ -21,10 +21,10 @@ abbrev pub user_rows_from : List Stamped → ℕ → List Person → List Row
 user_rows_from j n [] = []
 user_rows_from j n (p ∷ ps) = row.User (record { 0 = n }) p.name p.bot (settings j (record { 0 = n })) ∷ user_rows_from j (n + 1) ps
 
--- a row for each message
-abbrev pub message_rows_from : ℕ → List SentMessage → List Row
-message_rows_from n [] = []
-message_rows_from n (m ∷ ms) = row.Message (record { 0 = n }) m.sender m.text false ∷ message_rows_from (n + 1) ms
+-- a row for each message, which keeps its text where it is deleted
+abbrev pub message_rows_from : List Stamped → ℕ → List SentMessage → List Row
+message_rows_from j n [] = []
+message_rows_from j n (m ∷ ms) = row.Message (record { 0 = n }) m.sender m.text (is_deleted j (record { 0 = n })) ∷ message_rows_from j (n + 1) ms
 
 -- how far a pending notice has come
 abbrev pub stage_of : Account → Option Stage
@@ -48,7 +48,7 @@ outbox_rows_from n (e ∷ es) = row.Outbox (record { 0 = n }) e false ∷ outbox
 
 -- what has a row, table by table
 abbrev pub listed_rows : List Stamped → List Row
-listed_rows j = user_rows_from j 1 (people j) ++ (message_rows_from 1 (messages j) ++ (filter_map (pending_row j) (notices j) ++ (filter_map (active_row j) (notices j) ++ outbox_rows_from 1 (outbox j))))
+listed_rows j = user_rows_from j 1 (people j) ++ (message_rows_from j 1 (messages j) ++ (filter_map (pending_row j) (notices j) ++ (filter_map (active_row j) (notices j) ++ outbox_rows_from 1 (outbox j))))
 
 -- a row before the first one whose key is greater
 abbrev pub put_by_key : Row → List Row → List Row

@@ -1,16 +1,17 @@
 -- What there is, and the values before a position. A function of a journal means here: of the events before
 -- the position that is spoken of.
-use Rattle.std.specs.Prelude.{ℕ, zero, suc, ◌+◌, Bool, false, ◌&&◌, ◌==◌, List, [], ◌∷◌, Option, Some, None, option_and_then, option_map, is_some, unwrap_or, length, map, slice_get, count_by, if◌then◌else◌}
+use Rattle.std.specs.Prelude.{ℕ, zero, suc, ◌+◌, Bool, false, not, ◌&&◌, ◌||◌, ◌==◌, List, [], ◌∷◌, Option, Some, None, option_and_then, option_map, is_some, unwrap_or, length, map, slice_get, count_by, if◌then◌else◌}
 use Rattle.std.specs.Option.{option_map_or}
 use Rattle.std.specs.List.{filter_map, list_any, range_with_len}
 use Rattle.std.specs.Str.{str_eq_ignore_ascii_case}
 use Rattle.chat_model.specs.declared.event.Stamped.{Stamped}
 use Rattle.chat_model.specs.declared.event.Event.{Event}
 use Rattle.chat_model.specs.declared.event.Event.TheVariants.{Asked}
-use Rattle.chat_model.specs.declared.request.Request.TheVariants.{AddUser, AddGroup, Member, AddChannel, Subscribe, Set, SetChannel, SetPolicy, Mute, Send, Direct}
+use Rattle.chat_model.specs.declared.request.Request.TheVariants.{AddUser, AddGroup, Member, AddChannel, Subscribe, Set, SetChannel, SetPolicy, Mute, Send, Direct, Delete, Read}
 use Rattle.chat_model.specs.declared.ids.UserId.{UserId}
 use Rattle.chat_model.specs.declared.ids.ChannelId.{ChannelId}
 use Rattle.chat_model.specs.declared.ids.GroupId.{GroupId}
+use Rattle.chat_model.specs.declared.ids.MessageId.{MessageId}
 use Rattle.chat_model.specs.declared.policy.Policy.{Policy}
 use Rattle.chat_model.specs.declared.policy.Policy.TheVariants.{Inherit}
 use Rattle.chat_model.specs.declared.policy.Specific.{Specific}
@@ -145,6 +146,28 @@ message_of o = sent_by o.past o.event
 unfoldable pub messages : List Stamped → List SentMessage
 messages j = filter_map message_of (occurrences j)
 
+-- the message of a number
+abbrev pub message : List Stamped → MessageId → Option SentMessage
+message j m = numbered m.0 (messages j)
+
+-- an event deletes the message
+abbrev pub deletes : MessageId → Event → Bool
+deletes m (Asked (Delete user message)) = message.0 == m.0
+deletes m _ = false
+
+-- a message is deleted where an event deletes it
+unfoldable pub is_deleted : List Stamped → MessageId → Bool
+is_deleted j m = list_any (λ s. deletes m s.event) j
+
+-- there is a message of that number, and it isn't deleted
+abbrev pub is_message : List Stamped → MessageId → Bool
+is_message j m = is_some (message j m) && not (is_deleted j m)
+
+-- an event is a read of the message by the user
+abbrev pub reads : UserId → MessageId → Event → Bool
+reads u m (Asked (Read user messages)) = user.0 == u.0 && list_any (λ n. n.0 == m.0) messages
+reads u m _ = false
+
 -- an event makes a deal where it sends a message
 abbrev pub makes_deal : Event → Bool
 makes_deal event = is_some (sending_of event)
@@ -251,6 +274,15 @@ abbrev pub is_to_topic : ChannelId → List ℕ → Destination → Bool
 is_to_topic c topic (destination.Channel channel other) = channel.0 == c.0 && str_eq_ignore_ascii_case topic other
 is_to_topic c topic (destination.Direct to) = false
 
--- a participant of a topic of a channel is the sender of a message that was sent to it
+-- the user sent the message to this topic, and it isn't deleted
+abbrev pub takes_part_by : List Stamped → UserId → ChannelId → List ℕ → ℕ → SentMessage → Bool
+takes_part_by j u c topic n m = m.sender.0 == u.0 && is_to_topic c topic m.to && not (is_deleted j (record { 0 = n }))
+
+-- one of the messages from a number on passes a test of its number and itself
+abbrev pub some_from : (ℕ → SentMessage → Bool) → ℕ → List SentMessage → Bool
+some_from test n [] = false
+some_from test n (m ∷ ms) = test n m || some_from test (n + 1) ms
+
+-- a participant of a topic of a channel is the sender of a message that was sent to it and isn't deleted
 unfoldable pub is_participant : List Stamped → UserId → ChannelId → List ℕ → Bool
-is_participant j u c topic = list_any (λ m. m.sender.0 == u.0 && is_to_topic c topic m.to) (messages j)
+is_participant j u c topic = some_from (takes_part_by j u c topic) 1 (messages j)

@@ -1,17 +1,15 @@
-use Rattle.std.proofs.Common.{List, sym, ◌∙◌, subst}
+use Rattle.std.proofs.Common.{false, ◌∷◌, [], List, map, ap, sym, ◌∙◌}
 use Rattle.book_tables.specs.declared.tables.Waiting.{Waiting}
-use Rattle.book_tables.specs.Notices.{is_undecided_at, IsInOrder, IsOnly, NonePasses}
-use Rattle.book_tables.proofs.Sought.{remove-only, none-gone}
+use Rattle.book_tables.specs.Notices.{moved, put_in_order, put_all_in_order}
 use Rattle.book_tables.proofs.waiting.clear_one.Goals as goal
 
-pub returns-in-Some : goal.returns-in-Some
-returns-in-Some c = λ order.
-    let test = is_undecided_at c.args.deal c.args.user c.args.way in let ws = c.args.waiting.now.items in
-    let only = subst (λ (vs : List Waiting). IsOnly test vs c.in-Some.place) c.deref.ensures.value (c.in-Some.ensures.found (subst IsInOrder (sym c.deref.ensures.value) order)) in
-    c.remove.ensures.by_index.2 ∙ remove-only test ws c.in-Some.place only
+pub returns-in-Some-clause-cleared : goal.returns-in-Some-clause-cleared
+returns-in-Some-clause-cleared c = λ order sorted.
+    let vs = c.args.cleared.now.items in
+    c.put_in_order.ensures.items sorted
+    ∙ (ap (λ (w : Waiting). put_in_order w vs) c.moved.ensures
+    ∙ ap (λ (ws : List Waiting). put_all_in_order (map (moved false) ws) vs) (c.in-Some.ensures.taken order))
 
-pub returns-in_default : goal.returns-in_default
-returns-in_default c = λ order.
-    let test = is_undecided_at c.args.deal c.args.user c.args.way in let ws = c.args.waiting.now.items in
-    let none = subst (λ (vs : List Waiting). NonePasses test vs) c.deref.ensures.value (c.in_default.ensures.found (subst IsInOrder (sym c.deref.ensures.value) order)) in
-    sym (none-gone test ws none)
+pub returns-in_default-clause-cleared : goal.returns-in_default-clause-cleared
+returns-in_default-clause-cleared c = λ order sorted.
+    ap (λ (ws : List Waiting). put_all_in_order (map (moved false) ws) c.args.cleared.now.items) (c.in_default.ensures.taken order)

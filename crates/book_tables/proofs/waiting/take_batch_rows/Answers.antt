@@ -16,6 +16,6 @@ loop-message-preserved c = λ order numbered.
     let none : MessageId = record { 0 = 0 } in let m = get_or ms i none in
     let so_far = c.loop-message.invariant order numbered in
     let taken = λ (w : Waiting). not (is_one_batch_row u (take i ms) w) in
-    c.take_ready.ensures (subst IsInOrder (sym so_far) (order-filter taken ws order)) (subst AreNumbered (sym so_far) (numbered-filter taken ws numbered))
+    c.take_ready.ensures.rest (subst IsInOrder (sym so_far) (order-filter taken ws order)) (subst AreNumbered (sym so_far) (numbered-filter taken ws numbered))
     ∙ (ap (filter (λ (w : Waiting). not (is_batch_row u m w))) so_far
     ∙ (take-next u (take i ms) m ws ∙ ap (λ ns. filter (λ (w : Waiting). not (is_one_batch_row u ns w)) ws) (sym (take_more ms i none c.loop-message-test.true))))

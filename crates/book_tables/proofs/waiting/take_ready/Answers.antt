@@ -1,17 +1,30 @@
-use Rattle.std.proofs.Common.{List, sym, ◌∙◌, subst}
+use Rattle.std.proofs.Common.{◌∷◌, [], List, sym, ap, ◌∙◌, subst}
+use Rattle.std.specs.Prelude.{option_to_list}
 use Rattle.book_tables.specs.declared.tables.Waiting.{Waiting}
 use Rattle.book_tables.specs.Notices.{is_ready_of, IsInOrder, AreNumbered, IsOnly, NonePasses}
-use Rattle.book_tables.proofs.Sought.{remove-only, none-gone}
+use Rattle.book_tables.proofs.Sought.{remove-only, none-gone, filter-none, filter-only}
 use Rattle.book_tables.proofs.waiting.take_ready.Goals as goal
 
-pub returns-in-Some : goal.returns-in-Some
-returns-in-Some c = λ order numbered.
+pub returns-in_err-place-clause-taken : goal.returns-in_err-place-clause-taken
+returns-in_err-place-clause-taken c = λ order numbered.
     let test = is_ready_of c.args.user c.args.message c.args.way in let ws = c.args.waiting.now.items in
-    let only = subst (λ (vs : List Waiting). IsOnly test vs c.in-Some.place) c.deref.ensures.value (c.in-Some.ensures.found (subst IsInOrder (sym c.deref.ensures.value) order) (subst AreNumbered (sym c.deref.ensures.value) numbered)) in
-    c.remove.ensures.by_index.2 ∙ remove-only test ws c.in-Some.place only
+    let none = subst (λ (vs : List Waiting). NonePasses test vs) c.deref.ensures.value (c.in_err-place.ensures.found (subst IsInOrder (sym c.deref.ensures.value) order) (subst AreNumbered (sym c.deref.ensures.value) numbered)) in
+    ap option_to_list c.from_residual.ensures ∙ sym (filter-none test ws none)
 
-pub returns-in_default : goal.returns-in_default
-returns-in_default c = λ order numbered.
+pub returns-in_err-place-clause-rest : goal.returns-in_err-place-clause-rest
+returns-in_err-place-clause-rest c = λ order numbered.
     let test = is_ready_of c.args.user c.args.message c.args.way in let ws = c.args.waiting.now.items in
-    let none = subst (λ (vs : List Waiting). NonePasses test vs) c.deref.ensures.value (c.in_default.ensures.found (subst IsInOrder (sym c.deref.ensures.value) order) (subst AreNumbered (sym c.deref.ensures.value) numbered)) in
+    let none = subst (λ (vs : List Waiting). NonePasses test vs) c.deref.ensures.value (c.in_err-place.ensures.found (subst IsInOrder (sym c.deref.ensures.value) order) (subst AreNumbered (sym c.deref.ensures.value) numbered)) in
     sym (none-gone test ws none)
+
+pub returns-clause-taken : goal.returns-clause-taken
+returns-clause-taken c = λ order numbered.
+    let test = is_ready_of c.args.user c.args.message c.args.way in let ws = c.args.waiting.now.items in
+    let only = subst (λ (vs : List Waiting). IsOnly test vs c.in_ok-place.place) c.deref.ensures.value (c.in_ok-place.ensures.found (subst IsInOrder (sym c.deref.ensures.value) order) (subst AreNumbered (sym c.deref.ensures.value) numbered)) in
+    ap (λ (w : Waiting). w ∷ []) c.remove.ensures.value ∙ sym (filter-only test ws c.in_ok-place.place c.remove.result only)
+
+pub returns-clause-rest : goal.returns-clause-rest
+returns-clause-rest c = λ order numbered.
+    let test = is_ready_of c.args.user c.args.message c.args.way in let ws = c.args.waiting.now.items in
+    let only = subst (λ (vs : List Waiting). IsOnly test vs c.in_ok-place.place) c.deref.ensures.value (c.in_ok-place.ensures.found (subst IsInOrder (sym c.deref.ensures.value) order) (subst AreNumbered (sym c.deref.ensures.value) numbered)) in
+    c.remove.ensures.by_index.2 ∙ remove-only test ws c.in_ok-place.place only

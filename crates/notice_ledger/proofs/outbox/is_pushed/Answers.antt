@@ -4,7 +4,7 @@ use Rattle.notice_ledger.proofs.outbox.is_pushed.Goals as goal
 
 pub returns-in-Some : goal.returns-in-Some
 returns-in-Some c =
-    c.is_switch_on.ensures
+    c.is_handed_over.ensures
     ∙ pushed-found c.args.past.now c.args.user c.args.message c.deref.result.now (Some c.in-Some.notice.now) (c.deref.ensures.value ∙ c.in_ok-notices.ensures) c.in-Some.ensures
 
 pub returns : goal.returns

@@ -20,15 +20,21 @@ returns c =
       channels = c.new-7.result;
       subscribers = c.new-8.result;
       messages = c.new-9.result;
-      waiting = c.new-10.result;
-      batches = c.new-11.result;
-      pushes = c.new-12.result;
-      active = c.new-13.result;
-      deals = c.new-14.result;
-      outbox = c.new-15.result;
+      addressees = c.new-10.result;
+      deleted = c.new-11.result;
+      waiting = c.new-12.result;
+      cleared = c.new-13.result;
+      batches = c.new-14.result;
+      pushes = c.new-15.result;
+      active = c.new-16.result;
+      deals = c.new-17.result;
+      outbox = c.new-18.result;
       handed = 0;
       off = 0;
-      live = 0;
+      read = 0;
+      gone = 0;
+      written = 0;
     } in
     subst (λ (j : List Stamped). Holds t j) (sym IsLawful-nil)
-    (empty_stands t c.in-Some.ensures.value refl c.new-2.ensures.items c.new-3.ensures.items c.new-5.ensures.items c.new-6.ensures.items c.new-7.ensures.items c.new-8.ensures.items c.new-9.ensures.items c.new-10.ensures.items c.new-11.ensures (ap (λ q. q.items) c.new-12.ensures) c.new-13.ensures.items c.new-14.ensures.items c.new-15.ensures.items c.new-4.ensures.items refl refl refl)
+    (empty_stands t c.in-Some.ensures.value refl c.new-2.ensures.items c.new-3.ensures.items c.new-5.ensures.items c.new-6.ensures.items c.new-7.ensures.items c.new-8.ensures.items c.new-9.ensures.items c.new-10.ensures.items c.new-11.ensures.items c.new-12.ensures.items c.new-13.ensures.items
+    c.new-14.ensures (ap (λ q. q.items) c.new-15.ensures) c.new-16.ensures.items c.new-17.ensures.items c.new-18.ensures.items c.new-4.ensures.items refl refl refl refl refl)

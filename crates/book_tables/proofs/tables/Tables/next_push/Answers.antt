@@ -5,7 +5,7 @@ use Rattle.book_tables.specs.declared.tables.Waiting.{Waiting}
 use Rattle.book_tables.specs.Notices.{is_ready_of, IsInOrder, AreNumbered, NonePasses, IsOnly}
 use Rattle.book_tables.specs.Tables.{notice_kept}
 use Rattle.book_tables.proofs.Ordered.{in_order, numbered_so}
-use Rattle.book_tables.proofs.PushTurned.{next_notice, next_has, next_passes, found_push}
+use Rattle.book_tables.proofs.NextPush.{next_notice, next_has, next_passes, found_push}
 use Rattle.book_tables.proofs.Sought.{gets, none-has, only-is}
 use Rattle.book_tables.proofs.tables.Tables.next_push.Goals as goal
 

@@ -12,7 +12,7 @@ use Rattle.book_tables.proofs.Steps.{as_made}
 use Rattle.book_tables.proofs.tables.Tables.prepare_cleared.Goals as goal
 
 pub returns : goal.returns
-returns c = λ past h.
+returns c = λ past h next.
     let t = c.args.self.now in
     let made = λ (ks : List DealNo) (ws : List Waiting). flat_map (λ test. removes_where test ws) (named_by c.args.user ks) in
     let order : IsInOrder c.deref.result.now = subst IsInOrder (sym c.deref.ensures.value) (in_order t past h) in
@@ -21,6 +21,6 @@ returns c = λ past h.
       changes = as_made _ (c.in_ok-remove_all_cleared.ensures order
           ∙ (ap (λ (cs : List RowChange). cs ++ made c.as_slice.result.now c.deref.result.now) c.new-changes.ensures.items
           ∙ (λ i. made (c.as_slice.ensures i) (c.deref.ensures.value i))))
-          (changes-cleared t past h c.args.at c.args.user c.args.deals.now c.args.queue);
+          (changes-cleared t past h c.args.at c.args.user c.args.deals.now c.args.queue next);
       effect = ap (λ (ks : List DealNo). effect.Cleared c.args.user ks) c.in_ok-deals.ensures;
     }

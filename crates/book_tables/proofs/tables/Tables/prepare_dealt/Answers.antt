@@ -16,7 +16,7 @@ use Rattle.book_tables.proofs.Steps.{as_made}
 use Rattle.book_tables.proofs.tables.Tables.prepare_dealt.Goals as goal
 
 pub returns : goal.returns
-returns c = λ past h.
+returns c = λ past h next.
     let t = c.args.self.now in let at = c.args.at in let k = c.args.deal in let verdicts = c.args.verdicts.now in
     let idle = users_in c.set_of-idle.result in let live = users_in c.set_of-live.result in
     let are_idle : (u : UserId) → is_one_of idle u ≡ gives_idle verdicts u = λ u.
@@ -30,7 +30,7 @@ returns c = λ past h.
       changes = as_made _ (c.in_ok-put_dealt.ensures order
           ∙ (ap (λ (cs : List RowChange). cs ++ puts_where (is_undecided_of k) (dealt_to idle live) c.deref.result.now) c.new-changes.ensures.items
           ∙ ap (λ (ws : List Waiting). puts_where (is_undecided_of k) (dealt_to idle live) ws) c.deref.ensures.value))
-          (changes-dealt t past h at k verdicts idle live are_idle are_live);
+          (changes-dealt t past h at k verdicts idle live are_idle are_live next);
       effect = (
         refl,
         are_idle,

@@ -7,11 +7,11 @@ use Rattle.book_tables.proofs.Steps.{as_made}
 use Rattle.book_tables.proofs.tables.Tables.prepare_group.Goals as goal
 
 pub returns : goal.returns
-returns c = λ past h.
+returns c = λ past h next.
     let t = c.args.self.now in
     let many : c.len.result ≡ length t.groups.items = omega (arith, c.len.ensures, t.groups.ok.0) in record {
       at = refl;
-      changes = as_made _ c.new.ensures.items (no-changes_group t past h c.args.at c.args.name.now c.args.members.now);
+      changes = as_made _ c.new.ensures.items (no-changes_group t past h c.args.at c.args.name.now c.args.members.now next);
       effect = (
         ap (λ n. let g : GroupName = record { id = record { 0 = n + 1 }; name = c.in_ok-copy.field-0 } in g) (many ∙ groups_long t past h)
             ∙ ap (λ (x : List ℕ). let g : GroupName = record { id = record { 0 = length (groups past) + 1 }; name = x } in g) c.in_ok-copy.ensures,

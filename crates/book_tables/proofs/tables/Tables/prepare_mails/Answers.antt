@@ -14,7 +14,7 @@ put_entries-requires c =
     omega (arith, c.args.self.now.outbox.small, c.args.self.now.outbox.ok.0, c.in_ok-entries.entries.small, c.in_ok-entries.entries.ok.0, c.len.ensures, ap length c.deref.ensures.value)
 
 pub returns : goal.returns
-returns c = λ past h.
+returns c = λ past h next.
     let t = c.args.self.now in let u = c.args.user in let es = c.in_ok-entries.entries.items in
     let many : c.len.result ≡ length t.outbox.items = omega (arith, c.len.ensures, t.outbox.ok.0) in
     let made = c.in_ok-entries.ensures past h in record {
@@ -25,6 +25,6 @@ returns c = λ past h.
           (c.in_ok-remove_mails.ensures
           ∙ (ap (λ (cs : List RowChange). cs ++ map (removed_mail u) c.rows.result.now) c.new-changes.ensures.items
           ∙ ap (λ (ms : List MessageId). map (removed_mail u) ms) c.rows.ensures))))
-          (changes-mails t past h c.args.at u c.len.result es many made);
+          (changes-mails t past h c.args.at u c.len.result es many made next);
       effect = (refl, made, c.handed_over.ensures past h, c.switched_off.ensures past h);
     }

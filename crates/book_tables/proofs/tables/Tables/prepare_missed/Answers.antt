@@ -15,7 +15,7 @@ use Rattle.book_tables.proofs.Steps.{as_made}
 use Rattle.book_tables.proofs.tables.Tables.prepare_missed.Goals as goal
 
 pub returns : goal.returns
-returns c = λ past h.
+returns c = λ past h next.
     let t = c.args.self.now in
     let made = λ (ks : List DealNo) (ws : List Waiting). flat_map (λ test. puts_where test readied ws) (named_by c.args.user ks) in
     let order : IsInOrder c.deref.result.now = subst IsInOrder (sym c.deref.ensures.value) (in_order t past h) in
@@ -25,7 +25,7 @@ returns c = λ past h.
       changes = as_made _ (c.in_ok-put_all_missed.ensures order
           ∙ (ap (λ (cs : List RowChange). cs ++ made c.as_slice.result.now c.deref.result.now) c.new-changes.ensures.items
           ∙ (λ i. made (c.as_slice.ensures i) (c.deref.ensures.value i))))
-          (changes-missed t past h c.args.at c.args.user c.args.deals.now);
+          (changes-missed t past h c.args.at c.args.user c.args.deals.now next);
       effect = (
         refl,
         c.in_ok-deals.ensures,

@@ -11,12 +11,12 @@ use Rattle.book_tables.proofs.Steps.{as_made}
 use Rattle.book_tables.proofs.tables.Tables.prepare_start.Goals as goal
 
 pub returns : goal.returns
-returns c = λ past h.
+returns c = λ past h next.
     let t = c.args.self.now in let at = c.args.at in record {
       at = refl;
       changes = as_made _ (c.in_ok-put_ready.ensures
           ∙ (ap (λ (cs : List RowChange). cs ++ puts_where is_undecided readied c.deref.result.now) c.new-changes.ensures.items
           ∙ ap (λ (ws : List Waiting). puts_where is_undecided readied ws) c.deref.ensures.value))
-          (changes-start t past h at);
+          (changes-start t past h at next);
       effect = items-start t past h at _ _ c.once_each-pushes.ensures (c.in_ok-undecided_pushes.ensures ∙ ap (λ (ws : List Waiting). map push_of (filter is_undecided_push ws)) c.deref-2.ensures.value);
     }

@@ -1,5 +1,5 @@
 use Rattle.notice_ledger.specs.Lawful.{lawful}
-use Rattle.book_tables.proofs.Agreeing.{same_stands}
+use Rattle.book_tables.proofs.TheSame.{same_stands}
 use Rattle.book_tables.proofs.tables.Tables.reserve.Goals as goal
 
 pub returns-clause-same : goal.returns-clause-same

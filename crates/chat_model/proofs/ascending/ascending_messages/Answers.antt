@@ -1,0 +1,10 @@
+use Rattle.std.proofs.Common.{◌≡◌, ℕ, ap}
+use Rattle.chat_model.specs.declared.ids.MessageId.{MessageId}
+use Rattle.chat_model.proofs.OnceEach.{once_each}
+use Rattle.chat_model.proofs.ascending.ascending_messages.Goals as goal
+
+same_id : (x y : MessageId) → x.0 ≡ y.0 → x ≡ y
+same_id x y e = ap {A = ℕ} {B = MessageId} (λ n. record { 0 = n }) e
+
+pub returns : goal.returns
+returns c = search (once_each (λ (m : MessageId). m.0) same_id)
