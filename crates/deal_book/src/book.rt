@@ -165,6 +165,13 @@ fn all_moves(
     Ok(moves.into_vec())
 }
 
+/// The deal at a place, where there is one.
+fn deal_at(deals: &[DealKept], place: usize) -> Option<&DealKept>
+    ensures { option_copied result ≡ slice_get deals.now place }
+{
+    deals.get(place)
+}
+
 /// The deal of a message, where there is one.
 fn deal_of(deals: &[DealKept], message: MessageId) -> Option<&DealKept>
     requires { AreNumbered 0 deals.now }
@@ -173,7 +180,7 @@ fn deal_of(deals: &[DealKept], message: MessageId) -> Option<&DealKept>
     if message.0 == 0 {
         return None;
     }
-    deals.get((message.0 - 1) as usize)
+    deal_at(deals, (message.0 - 1) as usize)
 }
 
 impl DealBook {

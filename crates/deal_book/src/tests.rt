@@ -1,25 +1,24 @@
+ghost use Rattle.std.specs.Prelude.{◌≡◌, true, IfOk};
+ghost use Rattle.deal_book.specs.Kept.{are_by_user};
+
 use crate::{DealBook, Happening, KeptNotice, NewDeal, Standing};
-use chat_model::{Deal, DealNo, List, MessageId, Trigger, UserId, Way};
+use chat_model::{Deal, DealNo, List, MessageId, OutOfMemory, Trigger, UserId, Way};
 use std::alloc::Global;
 use std::test::Fail;
 
-fn notice(user: u64, way: Way) -> KeptNotice {
-    KeptNotice {
-        user: UserId(user),
+/// The deal of the first message, which owes the second user a push.
+fn first_deal(alloc: Global) -> Result<NewDeal, OutOfMemory>
+    ensures { IfOk result (λ new. (new.deal.number.0 ≡ 0) × (new.deal.message.0 ≡ 1) × (are_by_user new.notices ≡ true)) }
+{
+    let mut notices = List::new(alloc);
+    notices.push(KeptNotice {
+        user: UserId(2),
         via: None,
         trigger: Trigger::Mention,
-        way,
+        way: Way::Push,
         online: false,
         standing: Standing::Flight,
-    }
-}
-
-/// The deal of the first message, which owes the second user a mail and a push, and the third a mail.
-fn first_deal(alloc: Global) -> Result<NewDeal, Fail> {
-    let mut notices = List::new(alloc);
-    notices.push(notice(2, Way::Mail))?;
-    notices.push(notice(2, Way::Push))?;
-    notices.push(notice(3, Way::Mail))?;
+    })?;
     Ok(NewDeal {
         deal: Deal {
             number: DealNo(0),
@@ -30,31 +29,31 @@ fn first_deal(alloc: Global) -> Result<NewDeal, Fail> {
     })
 }
 
+fn missed(alloc: Global, user: u64) -> Result<Happening, OutOfMemory> {
+    let mut deals = List::new(alloc);
+    deals.push(DealNo(0))?;
+    Ok(Happening::Missed {
+        user: UserId(user),
+        deals,
+    })
+}
+
 #[test]
-fn a_miss_readies_the_notices_of_its_user(rt: HostRuntime) -> Result<(), Fail> {
+fn a_miss_readies_the_notice_of_its_user(rt: HostRuntime) -> Result<(), Fail> {
     let mut book = DealBook::new(rt.alloc());
     let new = Some(first_deal(rt.alloc())?);
     book.reserve(&new)?;
     assert!(rt; book.deal(DealNo(0)).is_none());
     book.add(new);
     assert!(rt; book.deal(DealNo(0)).is_some());
-    let mut deals = List::new(rt.alloc());
-    deals.push(DealNo(0))?;
-    let missed = Happening::Missed {
-        user: UserId(2),
-        deals,
-    };
-    assert_eq!(rt; book.moves(&missed)?.len(), 2);
-    book.make(Some(missed));
-    for (user, way, standing) in [
-        (2, Way::Mail, Standing::Ready),
-        (2, Way::Push, Standing::Ready),
-        (3, Way::Mail, Standing::Flight),
-    ] {
-        let found = book
-            .find(UserId(user), MessageId(1), way)
-            .ok_or("no notice")?;
-        assert_eq!(rt; found.notice.standing, standing);
+    for (user, moves, standing) in [(3, 0, Standing::Flight), (2, 1, Standing::Ready)] {
+        let missed = missed(rt.alloc(), user)?;
+        assert_eq!(rt; book.moves(&missed)?.len(), moves);
+        book.make(Some(missed));
+        match book.find(UserId(2), MessageId(1), Way::Push) {
+            Some(found) => assert_eq!(rt; found.notice.standing, standing),
+            None => panic!(rt; "no notice"),
+        }
     }
     Ok(())
 }

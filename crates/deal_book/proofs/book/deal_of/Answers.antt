@@ -1,6 +1,4 @@
-use Rattle.std.proofs.Common.{◌≡◌, ◌-◌, ◌≤◌, sym, ◌∙◌, arith, rules}
-use Rattle.std.specs.Prelude.{slice_get}
-use Rattle.std.specs.Option.{option_copied}
+use Rattle.std.proofs.Common.{◌-◌, sym, ◌∙◌, arith}
 use Rattle.deal_book.proofs.Named.{of_message-at, of_message-none}
 use Rattle.deal_book.proofs.book.deal_of.Goals as goal
 
@@ -9,5 +7,4 @@ returns-then-message-eq0 c = sym (of_message-none 0 c.args.message.0 c.args.deal
 
 pub returns : goal.returns
 returns c =
-    let there : option_copied c.get.result ≡ slice_get c.args.deals.now (c.args.message.0 - 1) = search rules in
-    there ∙ sym (of_message-at 0 (c.args.message.0 - 1) c.args.message.0 c.args.deals.now c.requires (omega (arith, c.if-message-eq0.false)))
+    c.deal_at.ensures ∙ sym (of_message-at 0 (c.args.message.0 - 1) c.args.message.0 c.args.deals.now c.requires (omega (arith, c.if-message-eq0.false)))
