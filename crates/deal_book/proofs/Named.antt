@@ -146,7 +146,6 @@ pub has_deal-next : (ds : List DealNo) (i : ℕ) (d x : DealNo) → i < length d
 has_deal-next ds i d x lt =
     sym (ap (λ k. has_deal (take k ds) x) (add-one i) ∙ (ap (λ ks. has_deal ks x) (take-suc ds i d lt) ∙ any-next (λ (k : DealNo). k.0 == x.0) (take i ds) (get_or ds i d)))
 
-
 below_at : (n : ℕ) (ds : List DealNo) (i : ℕ) (d : DealNo) → AllByRecursion (λ (k : DealNo). n < k.0) ds → i < length ds → n < (get_or ds i d).0
 below_at n [] i d all lt = absurd (omega arith)
 below_at n (k ∷ ds) zero d all lt = all.0

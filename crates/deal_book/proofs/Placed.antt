@@ -9,9 +9,6 @@ use Rattle.chat_model.specs.declared.ids.UserId.{UserId}
 use Rattle.deal_book.specs.Kept.{are_by_user}
 use Rattle.deal_book.specs.declared.standing.KeptNotice.{KeptNotice}
 
-
-
-
 pub all_within-take : {A : Type 0} (p : A → Bool) (xs : List A) (i : ℕ) → i ≤ length xs → AllWithin (λ x. p x ≡ true) xs 0 i → list_all p (take i xs) ≡ true
 all_within-take p xs zero le h = refl
 all_within-take p [] (suc i) le h = refl

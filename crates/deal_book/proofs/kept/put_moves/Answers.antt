@@ -29,15 +29,15 @@ loop-i-preserved c =
     let next = given_next (move_of h d) i ns nothing lt in
     elim c.match-move_of.branch [
       | in-Some+in_ok-push w ↦
-        w.moves-is
-        ∙ (w.in_ok-push.ensures.ok
-        ∙ (ap (λ ms. ms ++ w.in-Some.moved ∷ []) c.loop-i.invariant
-        ∙ (append_assoc old front (w.in-Some.moved ∷ [])
-        ∙ ap (λ ms. old ++ ms) (sym (next ∙ ap (λ o. front ++ cons_option o []) (sym w.in-Some.ensures))))))
+          w.moves-is
+          ∙ (w.in_ok-push.ensures.ok
+          ∙ (ap (λ ms. ms ++ w.in-Some.moved ∷ []) c.loop-i.invariant
+          ∙ (append_assoc old front (w.in-Some.moved ∷ [])
+          ∙ ap (λ ms. old ++ ms) (sym (next ∙ ap (λ o. front ++ cons_option o []) (sym w.in-Some.ensures))))))
       | in_default w ↦
-        w.moves-is
-        ∙ (c.loop-i.invariant
-        ∙ ap (λ ms. old ++ ms) (sym (next ∙ (ap (λ o. front ++ cons_option o []) (sym w.in_default.ensures) ∙ append-nil front))))
+          w.moves-is
+          ∙ (c.loop-i.invariant
+          ∙ ap (λ ms. old ++ ms) (sym (next ∙ (ap (λ o. front ++ cons_option o []) (sym w.in_default.ensures) ∙ append-nil front))))
     ]
 
 pub returns : goal.returns

@@ -17,6 +17,7 @@ invariant_of-self c =
     let long : length es ≡ length c.args.self.now.deals = ap (λ (b : Book). length b.deals) c.self.view_is in
     let deal : e.deal ≡ c.in-Some.field-0.deal = ap (λ (k : Kept). k.deal) c.new.ensures ∙ cc in
     let k = ap (λ (d : Deal). d.number.0) deal in
-    let m = ap (λ (d : Deal). d.message.0) deal in
-    (subst (AreNumbered 0) (sym c.push_reserved.ensures.items) (numbered-added 0 es e c.self.invariant.0 (omega (arith, k, next.0, long)) (omega (arith, m, next.1, long))),
-    omega (arith, c.push_reserved.ensures.len, c.push_reserved.ensures.capacity, c.self.invariant.1, room, same_room))
+    let m = ap (λ (d : Deal). d.message.0) deal in (
+      subst (AreNumbered 0) (sym c.push_reserved.ensures.items) (numbered-added 0 es e c.self.invariant.0 (omega (arith, k, next.0, long)) (omega (arith, m, next.1, long))),
+      omega (arith, c.push_reserved.ensures.len, c.push_reserved.ensures.capacity, c.self.invariant.1, room, same_room),
+    )
