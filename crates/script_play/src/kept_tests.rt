@@ -79,7 +79,8 @@ deal => dealt 2 2=live
 "#;
 
 // A start makes ready what is undecided.
-const STARTED: &str = r#"audit => audit flight=0 held=0 ready=4 handed=0 read=0 deleted=0 off=0 live=2 entries=0 waiting=0 written=0
+const STARTED: &str =
+    r#"audit => audit flight=0 held=0 ready=4 handed=0 read=0 deleted=0 off=0 live=2 entries=0 waiting=0 written=0
 absorb => nothing waiting
 deal => no deal
 ack 2 1:1 none => refused 21

@@ -87,14 +87,17 @@ fn load(keeper: MemoryKeeper) -> Result<Kept, Fault>
     }
 }
 
-// The line of counts of what is kept, by the slow computation; `None` where nothing was begun.
-fn slow_line(alloc: Global, kept: &Kept) -> Result<Option<Text>, Fault> {
+// The line of counts of what is kept, by the slow computation, of the accounts too where they are asked for; `None`
+// where nothing was begun.
+fn slow_line(alloc: Global, kept: &Kept, of_accounts: bool) -> Result<Option<Text>, Fault> {
     let journal = kept.journal.as_slice();
     if journal.is_empty() {
         return Ok(None);
     }
-    let counts = notice_ledger::audit(alloc, journal)?;
-    let counts = by_account(alloc, journal, kept.rows.as_slice(), counts)?;
+    let mut counts = notice_ledger::audit(alloc, journal)?;
+    if of_accounts {
+        counts = by_account(alloc, journal, kept.rows.as_slice(), counts)?;
+    }
     Ok(Some(print_reply(alloc, &Reply::Audit(counts))?))
 }
 
@@ -134,18 +137,24 @@ fn expect_same(alloc: Global, row: usize, written: &[u8], slowly: &str) -> Resul
     })
 }
 
-// Compares the counts behind the first lines of a run: those of the office, those of the accounts, and those that an
-// audit of what is kept writes, which compares the rows too.
+// Compares the counts behind the first lines of a run: those of the office, those that the journal gives slowly, and
+// those that an audit of what is kept writes, which compares the rows too. The accounts are as slow for each notice as
+// the counts are for all, so they are counted where the script asks for the counts, and at the end of the run.
 fn check_front(
     alloc: Global,
     script: &Script,
     earlier: usize,
-    row: usize,
+    run: &Run,
     front: &[Placed],
 ) -> Result<(), Fault> {
     let Done { sink, keeper, .. } = play_front(alloc, script, earlier, front)?;
     let kept = load(keeper)?;
-    let Some(slowly) = slow_line(alloc, &kept)? else {
+    let (row, is_asked) = match front.last() {
+        Some(line) => (line.row, line.text.as_str() == "audit"),
+        None => (run.row, false),
+    };
+    let of_accounts = is_asked || front.len() == run.lines.len();
+    let Some(slowly) = slow_line(alloc, &kept, of_accounts)? else {
         return Ok(());
     };
     expect_same(alloc, row, sink.bytes(), slowly.as_str())?;
@@ -165,10 +174,8 @@ fn check_run_counts(
     if !run.is_played_to_its_end() || lines.len() > MOST_LINES {
         return Ok(());
     }
-    check_front(alloc, script, earlier, run.row, &[])?;
-    for index in 0..lines.len() {
-        let row = lines[index].row;
-        check_front(alloc, script, earlier, row, &lines[..index + 1])?;
+    for count in 0..=lines.len() {
+        check_front(alloc, script, earlier, run, &lines[..count])?;
     }
     Ok(())
 }
