@@ -20,3 +20,6 @@ returns-in-SetPolicy c =
 
 pub returns-in-Mute : goal.returns-in-Mute
 returns-in-Mute c = c.mute_refusal.ensures c.in-Mute.on ∙ ap (refusal c.args.past.now) (sym c.in-Mute.is)
+
+pub returns-in-Edit : goal.returns-in-Edit
+returns-in-Edit c = c.edit_refusal.ensures c.in-Edit.message c.in-Edit.text ∙ ap (refusal c.args.past.now) (sym c.in-Edit.is)
